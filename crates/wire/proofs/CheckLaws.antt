@@ -1,0 +1,81 @@
+-- Laws of tests: what holds where several hold together, and the lowest index at which one fails. Assumes nothing.
+use Prim.Native.Nat.{ℕ, zero, suc, _+_, _-_, _<_, _≤_}
+use native.Mathlib.Omega.{arith}
+use native.Mathlib.Nat.{add-zero}
+use mathlib.Core.Path.{_≡_, refl, sym, ap, _∙_}
+use mathlib.Core.Bool.{Bool, true, false, cond, _&&_, false≢true}
+use borrow.Author.Tests.{eqb-true, eq-eqb, ne-eqb}
+use Rattle.wire.specs.Checks.{lowestFrom, lowest, allBelow}
+
+-- where both hold, each holds
+pub both-first : (a b : Bool) → (a && b) ≡ true → a ≡ true
+both-first true b e = refl
+both-first false b e = e
+
+pub both-second : (a b : Bool) → (a && b) ≡ true → b ≡ true
+both-second true b e = e
+both-second false b e = absurd (false≢true e)
+
+-- a case on a test that keeps what it gave
+pub by-test : {P : Type 0} (b : Bool) → (b ≡ true → P) → (b ≡ false → P) → P
+by-test true f g = f refl
+by-test false f g = g refl
+
+-- a loop over the indices below n has found that the test holds below i
+pub record Passed (test : ℕ → Bool) (n i : ℕ) : Type 0 where
+  pub within : i ≤ n
+  pub left : lowestFrom test i (n - i) ≡ lowest test n
+
+module _ (test : ℕ → Bool) where
+  pub passed-start : (n : ℕ) → Passed test n 0
+  passed-start n =
+      let e : n - 0 ≡ n = omega arith in
+      record { within = omega arith; left = ap (lowestFrom test 0) e }
+
+  pub passed-next : {n i : ℕ} → Passed test n i → i < n → test i ≡ true → Passed test n (i + 1)
+  unfolding lowestFrom
+  passed-next {n} {i} p h e =
+      let k : n - i ≡ suc (n - (i + 1)) = omega arith in
+      let j : i + 1 ≡ suc i = omega arith in
+      let turn : lowestFrom test i (n - i) ≡ lowestFrom test (suc i) (n - (i + 1)) = ap (lowestFrom test i) k ∙ rw e refl in
+      record {
+        within = omega arith;
+        left = ap (λ (m : ℕ). lowestFrom test m (n - (i + 1))) j ∙ sym turn ∙ p .left;
+      }
+
+  -- the test fails at i: i is the lowest such index
+  pub passed-fails : {n i : ℕ} → Passed test n i → i < n → test i ≡ false → lowest test n ≡ i
+  unfolding lowestFrom
+  passed-fails {n} {i} p h e =
+      let k : n - i ≡ suc (n - (i + 1)) = omega arith in
+      let stop : lowestFrom test i (n - i) ≡ i = ap (lowestFrom test i) k ∙ rw e refl in
+      sym (p .left) ∙ stop
+
+  -- no index is left: the test fails at none
+  pub passed-all : {n i : ℕ} → Passed test n i → n ≤ i → lowest test n ≡ n
+  unfolding lowestFrom
+  passed-all {n} {i} p h =
+      let k : n - i ≡ zero = omega arith in
+      let stop : lowestFrom test i (n - i) ≡ i = ap (lowestFrom test i) k in
+      omega (arith, sym (p .left) ∙ stop, p .within)
+
+  lowest-here : (i k : ℕ) → lowestFrom test i (suc k) ≡ i + suc k → test i ≡ true
+  unfolding lowestFrom
+  lowest-here i k e = by-test (test i) (λ t. t) (λ t. let z : i ≡ i + suc k = simp t at e in absurd (omega arith))
+
+  lowest-later : (i k : ℕ) → lowestFrom test i (suc k) ≡ i + suc k → lowestFrom test (suc i) k ≡ suc i + k
+  unfolding lowestFrom
+  lowest-later i k e = let z : lowestFrom test (suc i) k ≡ i + suc k = simp (lowest-here i k e) at e in omega arith
+
+  lowest-at : (i k : ℕ) → lowestFrom test i k ≡ i + k → (j : ℕ) → j < k → test (i + j) ≡ true
+  lowest-at i zero e j h = absurd (omega arith)
+  lowest-at i (suc k) e zero h = rw (add-zero i) (lowest-here i k e)
+  lowest-at i (suc k) e (suc j) h =
+      let n : i + suc j ≡ suc i + j = omega arith in
+      rw n (lowest-at (suc i) k (lowest-later i k e) j (omega arith))
+
+  -- where the test fails at no index below k, it holds at each
+  pub all-below : (k : ℕ) → allBelow test k ≡ true → (j : ℕ) → j < k → test j ≡ true
+  all-below k e j h =
+      let n : j ≡ 0 + j = omega arith in
+      rw n (lowest-at 0 k (omega (arith, eqb-true (lowest test k) k e)) j h)

@@ -1,0 +1,62 @@
+use mathlib.Core.Path.{_≡_}
+use native.Mathlib.Omega.{arith}
+use Rattle.wire.specs.Checks.{lowest}
+use Prim.Native.Nat.{ℕ, _-_}
+use lib.ListN.{length}
+use lib.Dec.{ltb}
+use borrow.Author.Needs.{needs}
+use borrow.Author.Tests.{lt-ltb, le-ltb, eq-eqb, ne-eqb}
+use Rattle.wire.specs.Bits.{bit, bitsFit}
+use Rattle.wire.proofs.CheckLaws.{Passed, passed-start, passed-next, passed-fails, passed-all}
+use Rattle.wire.proofs.bits.bits_fit.Statement.{statement}
+use Rattle.wire.proofs.bits.bits_fit.Tie as tie
+use Rattle.wire.proofs.bits.bits_fit.Reads as reads
+use Rattle.wire.proofs.bits.bits_fit.Lts as lts
+
+abbrev Inv-loop : tie.InvT-loop
+Inv-loop s count i₀ i = Passed (λ (k : ℕ). ltb (bit s k) 2) (length s) i
+
+abbrev μ-loop : tie.MeasureT-loop
+μ-loop s count i₀ i = length s - i
+
+returns : tie.Need-returns Inv-loop μ-loop
+unfolding bitsFit
+returns c = simp (ne-eqb _ _ (c .if1 .taken))
+
+loop-holds : tie.Need-loop-holds Inv-loop μ-loop
+loop-holds c = passed-start _ _
+
+shared-slice-read-if2 : tie.Need-shared-slice-read-if2 Inv-loop μ-loop
+shared-slice-read-if2 c = search needs
+
+returns-2 : tie.Need-returns-2 Inv-loop μ-loop
+unfolding bitsFit
+returns-2 c = let s = c .before .before .before .before .before .args .s .now in let i = c .before .before .before .loop .i in let e = passed-fails (λ (k : ℕ). ltb (bit s k) 2) (c .before .before .before .loop .inv) (c .before .before .loop-test .taken) (le-ltb (bit s i) 2 (omega (arith, c .if2 .taken))) in simp (eq-eqb _ _ (c .before .before .before .before .if1 .left), ne-eqb _ _ (λ (z : lowest (λ (k : ℕ). ltb (bit s k) 2) (length s) ≡ length s). absurd (omega (arith, e, z))))
+
+add-i : tie.Need-add-i Inv-loop μ-loop
+add-i c = search needs
+
+loop-less : tie.Need-loop-less Inv-loop μ-loop
+loop-less c = search needs
+
+loop-again : tie.Need-loop-again Inv-loop μ-loop
+loop-again c = passed-next (λ (k : ℕ). ltb (bit (c .before .before .before .before .before .args .s .now) k) 2) (c .before .before .before .loop .inv) (c .before .before .loop-test .taken) (lt-ltb (bit (c .before .before .before .before .before .args .s .now) (c .before .before .before .loop .i)) 2 (omega (arith, c .if2 .left)))
+
+returns-3 : tie.Need-returns-3 Inv-loop μ-loop
+unfolding bitsFit
+returns-3 c = let s = c .before .before .before .args .s .now in let e = passed-all (λ (k : ℕ). ltb (bit s k) 2) (c .before .loop .inv) (c .loop-test .left) in simp (eq-eqb _ _ (c .before .before .if1 .left), eq-eqb (lowest (λ (k : ℕ). ltb (bit s k) 2) (length s)) (length s) e)
+
+pub bits-fit-spec : {M : Type 1} → statement M
+bits-fit-spec =
+    tie.close
+    (tie.spec
+    Inv-loop
+    μ-loop
+    returns
+    loop-holds
+    shared-slice-read-if2
+    returns-2
+    add-i
+    loop-less
+    loop-again
+    returns-3)

@@ -1,0 +1,5 @@
+pub mod Bytes
+pub mod Checks
+pub mod Contents
+pub mod Answers
+pub mod Bits

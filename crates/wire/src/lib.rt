@@ -1,0 +1,6 @@
+// What every file and every service shares: numbers in bytes, the table of contents that opens a
+// file, bits kept in bytes, and the causes for which a service refuses.
+pub mod bits;
+pub mod contents;
+pub mod numbers;
+pub mod refusals;
