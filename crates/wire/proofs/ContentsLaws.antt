@@ -5,12 +5,12 @@ use native.Mathlib.Numerals.{towards-suc}
 use mathlib.Core.Path.{_≡_, refl, sym, ap, ap₂, _∙_}
 use mathlib.Core.Bool.{Bool, true, false, _&&_}
 use mathlib.Core.List.{List, [], _∷_, _++_, append-assoc}
-use lib.ListN.{length, getD, drop, take, length-drop}
+use lib.ListN.{length, getD, drop, take, length-take, length-drop}
 use lib.Seq.{drop-cons, drop-length, sets}
 use lib.Dec.{eqb, leb}
 use borrow.Author.Tests.{eqb-true, leb-true, eq-eqb, ne-eqb}
 use Rattle.wire.specs.Bytes.{at16, at32, bytes16, bytes32}
-use Rattle.wire.specs.Contents.{tableLength, tableFits, entryTag, entryStart, entryLength, entriesFrom, entriesFit, entriesBytes, contentsBytes, total}
+use Rattle.wire.specs.Contents.{tableLength, tableFits, entryTag, entryStart, entryLength, bodyOf, entriesFrom, entriesFit, entriesBytes, contentsBytes, total}
 use Rattle.wire.proofs.CheckLaws.{both-first, both-second}
 use Rattle.wire.proofs.ListLaws.{drop-next, sets-then}
 
@@ -21,6 +21,10 @@ table-whole k f e =
     leb-true (tableLength k) (length f)
     (both-second (eqb (at16 f 0) k) (leb (tableLength k) (length f))
     (both-second (leb 2 (length f)) (eqb (at16 f 0) k && leb (tableLength k) (length f)) e))
+
+-- a body that lies within the file is as long as its entry says
+pub body-length : (f : List ℕ) (i : ℕ) → entryStart f i + entryLength f i ≤ length f → length (bodyOf f i) ≡ entryLength f i
+body-length f i h = simp (length-take, length-drop) (omega arith)
 
 -- a loop over the entries has found the first i in order; the next body is to start at start
 pub record Followed (tags f : List ℕ) (i start : ℕ) : Type 0 where

@@ -6,6 +6,7 @@ use mathlib.Core.Path.{_≡_, refl, sym, ap, _∙_}
 use mathlib.Core.List.{List, [], _∷_, _++_}
 use native.Mathlib.Numerals.{add-one}
 use lib.ListN.{length, getD, take, drop, set}
+use Rattle.wire.specs.Lists.{tabulateFrom, tabulate}
 use lib.Seq.{sets, drop-cons, take-suc}
 
 -- one element more is dropped
@@ -26,3 +27,25 @@ sets-append l i (v ∷ vs) ws =
 -- the same where the place of the second is a number of its own
 pub sets-then : (l : List ℕ) (i j : ℕ) (vs ws : List ℕ) → j ≡ i + length vs → sets (sets l i vs) j ws ≡ sets l i (vs ++ ws)
 sets-then l i j vs ws e = ap (λ (n : ℕ). sets (sets l i vs) n ws) e ∙ sets-append l i vs ws
+
+-- a list made by index has as many elements as were asked for, each where its index says
+tabulateFrom-length : {A : Type 0} (make : ℕ → A) (i k : ℕ) → length (tabulateFrom make i k) ≡ k
+unfolding tabulateFrom
+tabulateFrom-length make i zero = refl
+tabulateFrom-length make i (suc k) = ap suc (tabulateFrom-length make (suc i) k)
+
+tabulateFrom-at : {A : Type 0} (make : ℕ → A) (i k j : ℕ) (d : A) → j < k → getD (tabulateFrom make i k) j d ≡ make (i + j)
+unfolding tabulateFrom
+tabulateFrom-at make i zero j d h = absurd (omega arith)
+tabulateFrom-at make i (suc k) zero d h = ap make (sym (add-zero i))
+tabulateFrom-at make i (suc k) (suc j) d h =
+    let e : suc i + j ≡ i + suc j = omega arith in
+    tabulateFrom-at make (suc i) k j d (omega arith) ∙ ap make e
+
+pub tabulate-length : {A : Type 0} (make : ℕ → A) (k : ℕ) → length (tabulate make k) ≡ k
+tabulate-length make k = tabulateFrom-length make 0 k
+
+pub tabulate-at : {A : Type 0} (make : ℕ → A) (k j : ℕ) (d : A) → j < k → getD (tabulate make k) j d ≡ make j
+tabulate-at make k j d h =
+    let e : 0 + j ≡ j = omega arith in
+    tabulateFrom-at make 0 k j d h ∙ ap make e

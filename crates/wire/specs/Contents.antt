@@ -22,8 +22,8 @@ abbrev pub entryLength : List ℕ → ℕ → ℕ
 entryLength f i = at32 f (2 + 10 * i + 6)
 
 -- the body that entry i names
-abbrev pub body : List ℕ → ℕ → List ℕ
-body f i = take (entryLength f i) (drop (entryStart f i) f)
+abbrev pub bodyOf : List ℕ → ℕ → List ℕ
+bodyOf f i = take (entryLength f i) (drop (entryStart f i) f)
 
 -- the test of cause 1: the number of entries is there and is k, and the table is not cut short
 unfoldable pub tableFits : ℕ → List ℕ → Bool

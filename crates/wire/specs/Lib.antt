@@ -1,5 +1,6 @@
+pub mod Answers
+pub mod Bits
 pub mod Bytes
 pub mod Checks
 pub mod Contents
-pub mod Answers
-pub mod Bits
+pub mod Lists

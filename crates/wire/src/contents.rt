@@ -9,7 +9,7 @@ ghost use Prim.Native.Nat.{_+_, _*_, _<_, _≤_};
 ghost use lib.ListN.{length};
 ghost use lib.Seq.{sets};
 ghost use Rattle.wire.specs.Bytes.{bytes16, bytes32};
-ghost use Rattle.wire.specs.Contents.{tableLength, tableFits, entriesFit, entryTag, entryStart, entryLength, contentsBytes, Writable};
+ghost use Rattle.wire.specs.Contents.{tableLength, tableFits, entriesFit, entryTag, entryStart, entryLength, bodyOf, contentsBytes, Writable};
 
 // Whether the table is there and has count entries.
 pub fn table_fits(file: &[u8], count: u16) -> bool
@@ -67,6 +67,16 @@ pub fn entries_fit(file: &[u8], tags: &[u16]) -> bool
         i += 1;
     }
     start == file.len() as u64
+}
+
+// The body that entry i names: its own part of the file.
+pub fn body(file: &[u8], i: usize) -> &[u8]
+    requires { ⌜ (tableLength (i + 1) ≤ length (now file)) × (entryStart (now file) i + entryLength (now file) i ≤ length (now file)) ⌝ }
+    ensures { λ r. ⌜ now r ≡ bodyOf (now (file .entry)) i ⌝ }
+{
+    let start = entry_start(file, i) as usize;
+    let end = start + entry_length(file, i) as usize;
+    &file[start..end]
 }
 
 // Stores one entry, whose first byte has index at.

@@ -1,0 +1,83 @@
+-- Laws of reading a program file: what each test that held says. Assumes nothing.
+use Prim.Native.Nat.{ℕ, _+_, _*_, _/_, _%_, _<_, _≤_}
+use native.Mathlib.Omega.{arith}
+use mathlib.Core.Path.{_≡_, refl, sym, ap, _∙_}
+use mathlib.Core.Bool.{Bool, true, false, _&&_}
+use mathlib.Core.List.{List, [], _∷_}
+use lib.ListN.{length}
+use lib.Dec.{eqb, leb}
+use borrow.Author.Tests.{eqb-true, leb-true}
+use Rattle.wire.specs.Contents.{tableLength, tableFits, entriesFit, entryStart, entryLength, bodyOf}
+use Rattle.wire.proofs.CheckLaws.{both-first, both-second}
+use Rattle.wire.proofs.ContentsLaws.{table-whole, body-length, entry-first, entries-end}
+use Rattle.wire.proofs.ListLaws.{tabulate-length}
+use Rattle.wire.specs.Answers.{Answer, result}
+use Rattle.program.specs.declared.reader.Head.{Head}
+use Rattle.program.specs.Nodes.{nodeAt}
+use Rattle.program.specs.Programs.{headOf}
+use Rattle.program.specs.Reading.{tags, inputsOf, outputsOf, nodesOf, lengthsFit, outputAt, programOf, Laid, Sized}
+
+module _ (f : List ℕ) where
+  -- causes 1 and 2 passed
+  pub laid : tableFits 3 f ≡ true → entriesFit tags f ≡ true → Laid f
+  unfolding entriesFit
+  laid t e =
+      let a = entry-first 1 (2 ∷ 3 ∷ []) 0 (tableLength 3) f e in
+      let b = entry-first 2 (3 ∷ []) 1 (tableLength 3 + entryLength f 0) f (a .behind) in
+      let c = entry-first 3 [] 2 (tableLength 3 + entryLength f 0 + entryLength f 1) f (b .behind) in
+      let z = entries-end 3 (tableLength 3 + entryLength f 0 + entryLength f 1 + entryLength f 2) f (c .behind) in
+      record {
+        whole = table-whole 3 f t;
+        first = a .starts;
+        second = omega (arith, a .starts, b .starts);
+        third = omega (arith, b .starts, c .starts);
+        last = omega (arith, c .starts, z);
+      }
+
+  -- and cause 3
+  pub sized : Laid f → lengthsFit f ≡ true → Sized f
+  unfolding lengthsFit
+  sized l e =
+      let four : Bool = eqb (entryLength f 0) 4 in
+      let sixes : Bool = eqb (entryLength f 1 % 6) 0 in
+      let some : Bool = leb 1 (nodesOf f) in
+      let most : Bool = leb (nodesOf f) 4096 in
+      let twos : Bool = eqb (entryLength f 2) (2 * outputsOf f) in
+      let a : (four && (sixes && (some && most))) ≡ true = both-first (four && (sixes && (some && most))) twos e in
+      let b : (sixes && (some && most)) ≡ true = both-second four (sixes && (some && most)) a in
+      let c : (some && most) ≡ true = both-second sixes (some && most) b in
+      let rest : entryLength f 1 % 6 ≡ 0 = eqb-true (entryLength f 1 % 6) 0 (both-first sixes (some && most) b) in
+      record {
+        laid = l;
+        four = eqb-true (entryLength f 0) 4 (both-first four (sixes && (some && most)) a);
+        sixes = omega (arith, rest);
+        some = leb-true 1 (nodesOf f) (both-first some most c);
+        most = leb-true (nodesOf f) 4096 (both-second some most c);
+        twos = eqb-true (entryLength f 2) (2 * outputsOf f) (both-second (four && (sixes && (some && most))) twos e);
+      }
+
+  module _ (l : Laid f) where
+    -- each body is as long as its entry says
+    pub head-long : length (bodyOf f 0) ≡ entryLength f 0
+    head-long = body-length f 0 (omega (arith, l .second, l .third, l .last))
+
+    pub nodes-long : length (bodyOf f 1) ≡ entryLength f 1
+    nodes-long = body-length f 1 (omega (arith, l .third, l .last))
+
+    pub outputs-long : length (bodyOf f 2) ≡ entryLength f 2
+    outputs-long = body-length f 2 (omega (arith, l .last))
+
+  module _ (s : Sized f) where
+    pub nodes-counted : length (bodyOf f 1) / 6 ≡ nodesOf f
+    nodes-counted = omega (arith, nodes-long (s .laid), s .sixes)
+
+    pub outputs-counted : length (bodyOf f 2) / 2 ≡ outputsOf f
+    outputs-counted = omega (arith, outputs-long (s .laid), s .twos)
+
+-- the head that the reader answers is the program's
+pub head-of : (f : List ℕ) {n m k : ℕ} → n ≡ inputsOf f → m ≡ outputsOf f → k ≡ nodesOf f → _≡_ {A = Answer Head} (result (record { inputs = n; outputs = m; nodes = k })) (result (headOf (programOf f)))
+unfolding programOf
+head-of f {n} {m} {k} a b c =
+    let ls = tabulate-length (nodeAt (bodyOf f 1)) (nodesOf f) in
+    let os = tabulate-length (outputAt (bodyOf f 2)) (outputsOf f) in
+    cc

@@ -1,0 +1,27 @@
+use mathlib.Core.Path.{ap, sym, _∙_}
+use Rattle.program.specs.declared.node.NodeRead.the-variants.{Good}
+use Rattle.program.specs.Nodes.{readNode}
+use borrow.Author.Needs.{needs}
+use Rattle.program.proofs.node.read_node.Statement.{statement}
+use Rattle.program.proofs.node.read_node.Tie as tie
+use Rattle.program.proofs.node.read_node.Reads as reads
+use Rattle.program.proofs.node.read_node.Lts as lts
+use Rattle.program.proofs.node.node_at.Reads as node-at-reads
+use Rattle.program.proofs.node.node_fits.Reads as node-fits-reads
+
+node-fits-requires : tie.Need-node-fits-requires
+node-fits-requires c κs = search needs
+
+node-at-requires : tie.Need-node-at-requires
+node-at-requires c κs = search needs
+
+returns : tie.Need-returns
+unfolding readNode
+returns c = simp (sym (c .before .before .node-fits .ensures) ∙ c .before .if1 .taken) (ap Good (c .node-at .ensures))
+
+returns-2 : tie.Need-returns-2
+unfolding readNode
+returns-2 c = simp (sym (c .before .node-fits .ensures) ∙ c .if1 .left)
+
+pub read-node-spec : {M : Type 1} → statement M
+read-node-spec = tie.close (tie.spec node-fits-requires node-at-requires returns returns-2)

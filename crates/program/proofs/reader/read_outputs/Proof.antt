@@ -1,0 +1,64 @@
+use native.Mathlib.Omega.{arith}
+use borrow.Author.Tests.{lt-ltb, le-ltb}
+use borrow.Author.Needs.{needs}
+use Prim.Native.Nat.{_-_, _/_}
+use mathlib.Core.Path.{sym, _∙_}
+use lib.ListN.{length}
+use Rattle.wire.proofs.CheckLaws.{Passed, passed-start, passed-next, passed-fails, passed-all}
+use Rattle.program.specs.Reading.{outputAt, outputFits}
+use Rattle.program.proofs.reader.read_outputs.Statement.{statement}
+use Rattle.program.proofs.reader.read_outputs.Tie as tie
+use Rattle.program.proofs.reader.read_outputs.Reads as reads
+use Rattle.program.proofs.reader.read_outputs.Lts as lts
+use Rattle.wire.proofs.numbers.get16.Reads as get16-reads
+
+abbrev Inv-loop : tie.InvT-loop
+Inv-loop outputs nodes k₀ k = Passed (outputFits nodes outputs) (length outputs / 2) k
+
+abbrev μ-loop : tie.MeasureT-loop
+μ-loop outputs nodes k₀ k = length outputs / 2 - k
+
+loop-holds : tie.Need-loop-holds Inv-loop μ-loop
+loop-holds c = passed-start _ _
+
+mul-get16 : tie.Need-mul-get16 Inv-loop μ-loop
+mul-get16 c = search needs
+
+get16-requires : tie.Need-get16-requires Inv-loop μ-loop
+get16-requires c κs = search needs
+
+cast-if1 : tie.Need-cast-if1 Inv-loop μ-loop
+cast-if1 c = search needs
+
+returns : tie.Need-returns Inv-loop μ-loop
+unfolding outputFits
+returns c = sym (passed-fails _ (c .before .before .before .loop .inv) (c .before .before .loop-test .taken) (le-ltb (outputAt (c .before .before .before .before .before .args .outputs .now) (c .before .before .before .loop .k)) (c .before .before .before .before .before .args .nodes) (omega (arith, c .before .get16 .ensures, c .if1 .taken))))
+
+add-k : tie.Need-add-k Inv-loop μ-loop
+add-k c = search needs
+
+loop-less : tie.Need-loop-less Inv-loop μ-loop
+loop-less c = search needs
+
+loop-again : tie.Need-loop-again Inv-loop μ-loop
+unfolding outputFits
+loop-again c = passed-next _ (c .before .before .before .loop .inv) (c .before .before .loop-test .taken) (lt-ltb (outputAt (c .before .before .before .before .before .args .outputs .now) (c .before .before .before .loop .k)) (c .before .before .before .before .before .args .nodes) (omega (arith, c .before .get16 .ensures, c .if1 .left)))
+
+returns-2 : tie.Need-returns-2 Inv-loop μ-loop
+returns-2 c = omega (arith, passed-all _ (c .before .loop .inv) (c .loop-test .left), c .before .loop .inv .within)
+
+pub read-outputs-spec : {M : Type 1} → statement M
+read-outputs-spec =
+    tie.close
+    (tie.spec
+    Inv-loop
+    μ-loop
+    loop-holds
+    mul-get16
+    get16-requires
+    cast-if1
+    returns
+    add-k
+    loop-less
+    loop-again
+    returns-2)

@@ -1,0 +1,5 @@
+pub mod Exprs
+pub mod Nodes
+pub mod Programs
+pub mod Reading
+pub mod Trees

@@ -1,0 +1,53 @@
+-- The nodes of a program file: six bytes each, and which of them are in order.
+use Prim.Native.Nat.{ℕ, _+_, _*_}
+use mathlib.Core.Bool.{Bool, false, cond, _&&_}
+use mathlib.Core.List.{List}
+use lib.ListN.{getD}
+use lib.Dec.{eqb, leb, ltb}
+use Rattle.wire.specs.Bytes.{at16}
+use Rattle.program.specs.declared.node.Node.{Node}
+use Rattle.program.specs.declared.node.Node.the-variants.{Zero, One, Input, Not, Xor, And}
+use Rattle.program.specs.declared.node.NodeRead.{NodeRead}
+use Rattle.program.specs.declared.node.NodeRead.the-variants.{Good, Bad}
+
+-- the node of a kind with these fields, where the fields are in order
+abbrev pub nodeOf : ℕ → ℕ → ℕ → Node
+nodeOf kind a b =
+    cond (eqb kind 0) Zero
+    (cond (eqb kind 1) One
+    (cond (eqb kind 2) (Input a)
+    (cond (eqb kind 3) (Not a)
+    (cond (eqb kind 4) (Xor a b) (And a b)))))
+
+-- the fields a and b of node i over n inputs are right for its kind: an input's number is below n, an operand is lower than i, an unused field is zero
+unfoldable pub operandsFit : ℕ → ℕ → ℕ → ℕ → ℕ → Bool
+operandsFit n i kind a b =
+    cond (leb kind 1) (eqb a 0 && eqb b 0)
+    (cond (eqb kind 2) (ltb a n && eqb b 0)
+    (cond (eqb kind 3) (ltb a i && eqb b 0)
+    (cond (leb kind 5) (ltb a i && ltb b i) false)))
+
+-- the fields of node i of a node body: its kind, its zero byte, a and b
+abbrev pub kindAt : List ℕ → ℕ → ℕ
+kindAt body i = getD body (6 * i) 0
+
+abbrev pub zeroAt : List ℕ → ℕ → ℕ
+zeroAt body i = getD body (6 * i + 1) 0
+
+abbrev pub aAt : List ℕ → ℕ → ℕ
+aAt body i = at16 body (6 * i + 2)
+
+abbrev pub bAt : List ℕ → ℕ → ℕ
+bAt body i = at16 body (6 * i + 4)
+
+-- node i of a node body
+unfoldable pub nodeAt : List ℕ → ℕ → Node
+nodeAt body i = nodeOf (kindAt body i) (aAt body i) (bAt body i)
+
+-- the test of cause 5 at node i: its zero byte is zero, and its kind and fields are right
+unfoldable pub nodeFits : ℕ → List ℕ → ℕ → Bool
+nodeFits n body i = eqb (zeroAt body i) 0 && operandsFit n i (kindAt body i) (aAt body i) (bAt body i)
+
+-- what reading node i finds: the node, or that the node with this index is not in order
+unfoldable pub readNode : ℕ → List ℕ → ℕ → NodeRead
+readNode n body i = cond (nodeFits n body i) (Good (nodeAt body i)) (Bad i)

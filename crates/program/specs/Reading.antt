@@ -1,0 +1,98 @@
+-- Reading a program file, check by check in the order of 01's table.
+use Prim.Native.Nat.{ℕ, _+_, _*_, _/_, _%_, _≤_}
+use mathlib.Core.Path.{_≡_}
+use mathlib.Core.Bool.{Bool, _&&_}
+use mathlib.Core.List.{List, [], _∷_}
+use lib.ListN.{length}
+use lib.Dec.{eqb, leb, ltb}
+use Rattle.wire.specs.Answers.{Answer, result, refuse, check, checkEach}
+use Rattle.wire.specs.Bytes.{at16}
+use Rattle.wire.specs.Contents.{tableLength, tableFits, entriesFit, entryStart, entryLength, bodyOf}
+use Rattle.wire.specs.Lists.{tabulate}
+use Rattle.wire.specs.declared.refusals.Refusal.the-variants as cause
+use Rattle.program.specs.declared.reader.Head.{Head}
+use Rattle.program.specs.declared.reader.ProgramRead.{ProgramRead}
+use Rattle.program.specs.declared.reader.ProgramRead.the-variants.{Good, Refused}
+use Rattle.program.specs.Nodes.{nodeAt, nodeFits}
+use Rattle.program.specs.Programs.{Program}
+
+-- the tags of the three bodies: inputs and outputs, nodes, outputs' nodes
+abbrev pub tags : List ℕ
+tags = 1 ∷ 2 ∷ 3 ∷ []
+
+-- n and m, as the first body has them
+abbrev pub inputsOf : List ℕ → ℕ
+inputsOf f = at16 (bodyOf f 0) 0
+
+abbrev pub outputsOf : List ℕ → ℕ
+outputsOf f = at16 (bodyOf f 0) 2
+
+-- how many nodes the second body has room for
+abbrev pub nodesOf : List ℕ → ℕ
+nodesOf f = entryLength f 1 / 6
+
+-- the test of cause 3: four bytes; six a node, 1 to 4,096 nodes; two an output, m as read
+unfoldable pub lengthsFit : List ℕ → Bool
+lengthsFit f =
+    eqb (entryLength f 0) 4
+    && (eqb (entryLength f 1 % 6) 0 && (leb 1 (nodesOf f) && leb (nodesOf f) 4096))
+    && eqb (entryLength f 2) (2 * outputsOf f)
+
+-- the test of cause 4: at most 64 inputs, 1 to 64 outputs
+unfoldable pub rangesFit : List ℕ → Bool
+rangesFit f = leb (inputsOf f) 64 && (leb 1 (outputsOf f) && leb (outputsOf f) 64)
+
+-- the index of the node that output k names
+abbrev pub outputAt : List ℕ → ℕ → ℕ
+outputAt body k = at16 body (2 * k)
+
+-- the test of cause 6 at output k: it names one of the nodes
+unfoldable pub outputFits : ℕ → List ℕ → ℕ → Bool
+outputFits nodes body k = ltb (outputAt body k) nodes
+
+-- the program that a file in order holds
+unfoldable pub programOf : List ℕ → Program
+programOf f =
+    record {
+      inputs = inputsOf f;
+      nodes = tabulate (nodeAt (bodyOf f 1)) (nodesOf f);
+      outputs = tabulate (outputAt (bodyOf f 2)) (outputsOf f);
+    }
+
+-- what reading the nodes and the outputs gives, once the lengths and ranges are right
+unfoldable pub readBodies : List ℕ → Answer Program
+readBodies f =
+    checkEach (nodeFits (inputsOf f) (bodyOf f 1)) (nodesOf f) cause.Node
+    (checkEach (outputFits (nodesOf f) (bodyOf f 2)) (outputsOf f) cause.Output
+    (result (programOf f)))
+
+-- what reading a program file gives
+unfoldable pub readProgram : List ℕ → Answer Program
+readProgram f =
+    check (tableFits 3 f) cause.Table
+    (check (entriesFit tags f) cause.Contents
+    (check (lengthsFit f) cause.BodyLength
+    (check (rangesFit f) cause.Range
+    (readBodies f))))
+
+-- the reader's answer in 01's terms: inputs, outputs and nodes, or a number and a place
+abbrev pub programRead : ProgramRead → Answer Head
+programRead (Good head) = result head
+programRead (Refused why) = refuse why
+
+-- a file that passes causes 1 and 2: each body lies within it, one behind the other
+pub record Laid (f : List ℕ) : Type 0 where
+  pub whole : tableLength 3 ≤ length f
+  pub first : entryStart f 0 ≡ tableLength 3
+  pub second : entryStart f 1 ≡ entryStart f 0 + entryLength f 0
+  pub third : entryStart f 2 ≡ entryStart f 1 + entryLength f 1
+  pub last : entryStart f 2 + entryLength f 2 ≡ length f
+
+-- a file that passes cause 3 too
+pub record Sized (f : List ℕ) : Type 0 where
+  pub laid : Laid f
+  pub four : entryLength f 0 ≡ 4
+  pub sixes : entryLength f 1 ≡ 6 * nodesOf f
+  pub some : 1 ≤ nodesOf f
+  pub most : nodesOf f ≤ 4096
+  pub twos : entryLength f 2 ≡ 2 * outputsOf f

@@ -1,0 +1,158 @@
+// The reader of program files: causes 1 to 6, in the order of their numbers.
+use crate::node::NodeRead;
+use crate::node::read_node;
+use wire::contents::body;
+use wire::contents::entries_fit;
+use wire::contents::entry_length;
+use wire::contents::table_fits;
+use wire::numbers::get16;
+use wire::refusals::Refusal;
+ghost use mathlib.Core.Path.{_≡_};
+ghost use Prim.Native.Nat.{_*_, _/_};
+ghost use lib.ListN.{length};
+ghost use Rattle.wire.specs.Answers.{mapAnswer};
+ghost use Rattle.wire.specs.Checks.{lowest};
+ghost use Rattle.wire.specs.Contents.{bodyOf};
+ghost use Rattle.program.specs.Nodes.{nodeFits};
+ghost use Rattle.program.specs.Programs.{headOf};
+ghost use Rattle.program.specs.Reading.{outputFits, lengthsFit, rangesFit, readBodies, readProgram, programRead, Laid, Sized};
+
+// How many inputs, outputs and nodes a program has.
+pub struct Head {
+    pub inputs: usize,
+    pub outputs: usize,
+    pub nodes: usize,
+}
+
+// What reading a program file gives.
+pub enum ProgramRead {
+    Good(Head),
+    Refused(Refusal),
+}
+
+// The lowest index of a node that is not in order, or the number of nodes.
+fn read_nodes(nodes: &[u8], inputs: usize) -> usize
+    ensures { λ r. ⌜ r ≡ lowest (nodeFits inputs (now (nodes .entry))) (length (now (nodes .entry)) / 6) ⌝ }
+{
+    let mut i = 0;
+    while i < nodes.len() / 6 {
+        let node = read_node(nodes, i, inputs);
+        if let NodeRead::Bad(at) = node {
+            return at;
+        }
+        i += 1;
+    }
+    i
+}
+
+// The lowest index of an output that names none of the nodes, or the number of outputs.
+fn read_outputs(outputs: &[u8], nodes: usize) -> usize
+    ensures { λ r. ⌜ r ≡ lowest (outputFits nodes (now (outputs .entry))) (length (now (outputs .entry)) / 2) ⌝ }
+{
+    let mut k = 0;
+    while k < outputs.len() / 2 {
+        if nodes <= get16(outputs, 2 * k) as usize {
+            return k;
+        }
+        k += 1;
+    }
+    k
+}
+
+// Whether the bodies have the lengths that their layout asks for. The number of outputs is taken
+// as read: whether it is in range is a later check.
+fn lengths_fit(file: &[u8]) -> bool
+    requires { ⌜ Laid (now file) ⌝ }
+    ensures { λ r. ⌜ r ≡ lengthsFit (now (file .entry)) ⌝ }
+{
+    if entry_length(file, 0) != 4 {
+        return false;
+    }
+    let nodes = entry_length(file, 1);
+    if nodes % 6 != 0 {
+        return false;
+    }
+    if nodes / 6 < 1 {
+        return false;
+    }
+    if 4096 < nodes / 6 {
+        return false;
+    }
+    let outputs = get16(body(file, 0), 2);
+    entry_length(file, 2) == 2 * (outputs as u32)
+}
+
+// Whether the numbers of inputs and outputs are in range.
+fn ranges_fit(file: &[u8]) -> bool
+    requires { ⌜ Sized (now file) ⌝ }
+    ensures { λ r. ⌜ r ≡ rangesFit (now (file .entry)) ⌝ }
+{
+    let head = body(file, 0);
+    if 64 < get16(head, 0) {
+        return false;
+    }
+    let outputs = get16(head, 2);
+    if outputs < 1 {
+        return false;
+    }
+    outputs <= 64
+}
+
+// The node body of a file.
+pub fn node_body(file: &[u8]) -> &[u8]
+    requires { ⌜ Laid (now file) ⌝ }
+    ensures { λ r. ⌜ now r ≡ bodyOf (now (file .entry)) 1 ⌝ }
+{
+    body(file, 1)
+}
+
+// The output body of a file.
+pub fn output_body(file: &[u8]) -> &[u8]
+    requires { ⌜ Laid (now file) ⌝ }
+    ensures { λ r. ⌜ now r ≡ bodyOf (now (file .entry)) 2 ⌝ }
+{
+    body(file, 2)
+}
+
+// Reads the node body and the output body, each as its own part of the file.
+fn read_bodies(file: &[u8]) -> ProgramRead
+    requires { ⌜ Sized (now file) ⌝ }
+    ensures { λ r. ⌜ programRead r ≡ mapAnswer headOf (readBodies (now (file .entry))) ⌝ }
+{
+    let head = body(file, 0);
+    let inputs = get16(head, 0) as usize;
+    let outputs = get16(head, 2) as usize;
+    let nodes = entry_length(file, 1) as usize / 6;
+    let node = read_nodes(node_body(file), inputs);
+    if node != nodes {
+        return ProgramRead::Refused(Refusal::Node(node as u64));
+    }
+    let output = read_outputs(output_body(file), nodes);
+    if output != outputs {
+        return ProgramRead::Refused(Refusal::Output(output as u64));
+    }
+    ProgramRead::Good(Head {
+        inputs,
+        outputs,
+        nodes,
+    })
+}
+
+// Reads a program file: how many inputs, outputs and nodes it has, or the first cause to refuse it.
+pub fn read_program(file: &[u8]) -> ProgramRead
+    ensures { λ r. ⌜ programRead r ≡ mapAnswer headOf (readProgram (now (file .entry))) ⌝ }
+{
+    if !table_fits(file, 3) {
+        return ProgramRead::Refused(Refusal::Table);
+    }
+    if !entries_fit(file, &[1, 2, 3]) {
+        return ProgramRead::Refused(Refusal::Contents);
+    }
+    if !lengths_fit(file) {
+        return ProgramRead::Refused(Refusal::BodyLength);
+    }
+    if !ranges_fit(file) {
+        return ProgramRead::Refused(Refusal::Range);
+    }
+    read_bodies(file)
+}

@@ -1,0 +1,314 @@
+//! Program files: written from their fields, drawn at random, and damaged.
+
+use crate::layout::{Entry, Layout};
+use crate::random::Random;
+
+/// The fields of a node.
+#[derive(Debug, Clone, Copy)]
+pub struct Node {
+    /// The kind, 0 to 5 if good.
+    pub kind: u8,
+    /// The byte that has to be zero.
+    pub zero: u8,
+    /// The input's number or the first operand.
+    pub a: u16,
+    /// The second operand.
+    pub b: u16,
+}
+
+/// A node from its kind and operands.
+pub const fn node(kind: u8, a: u16, b: u16) -> Node {
+    Node { kind, zero: 0, a, b }
+}
+
+/// The constant 0.
+pub const ZERO: Node = node(0, 0, 0);
+
+/// The constant 1.
+pub const ONE: Node = node(1, 0, 0);
+
+/// Input j.
+pub const fn input(j: u16) -> Node {
+    node(2, j, 0)
+}
+
+/// NOT a.
+pub const fn not(a: u16) -> Node {
+    node(3, a, 0)
+}
+
+/// a XOR b.
+pub const fn xor(a: u16, b: u16) -> Node {
+    node(4, a, b)
+}
+
+/// a AND b.
+pub const fn and(a: u16, b: u16) -> Node {
+    node(5, a, b)
+}
+
+impl Node {
+    /// The same with another byte in the place of the zero byte.
+    pub const fn with_zero_byte(mut self, byte: u8) -> Node {
+        self.zero = byte;
+        self
+    }
+}
+
+/// The fields of a program file below its table of contents.
+#[derive(Debug, Clone)]
+pub struct Program {
+    /// n as written.
+    pub inputs: u16,
+    /// m as written.
+    pub output_count: u16,
+    /// The nodes.
+    pub nodes: Vec<Node>,
+    /// The node of each output.
+    pub outputs: Vec<u16>,
+}
+
+impl Program {
+    /// A program whose m is the number of its outputs.
+    pub fn new(inputs: u16, nodes: &[Node], outputs: &[u16]) -> Program {
+        Program {
+            inputs,
+            output_count: outputs.len() as u16,
+            nodes: nodes.to_vec(),
+            outputs: outputs.to_vec(),
+        }
+    }
+
+    /// The same with another m.
+    pub fn with_output_count(mut self, output_count: u16) -> Program {
+        self.output_count = output_count;
+        self
+    }
+
+    /// The file laid open.
+    pub fn layout(&self) -> Layout {
+        let mut head = self.inputs.to_le_bytes().to_vec();
+        head.extend(self.output_count.to_le_bytes());
+
+        let mut nodes = Vec::with_capacity(6 * self.nodes.len());
+        for node in &self.nodes {
+            nodes.extend([node.kind, node.zero]);
+            nodes.extend(node.a.to_le_bytes());
+            nodes.extend(node.b.to_le_bytes());
+        }
+
+        let outputs = self.outputs.iter().flat_map(|index| index.to_le_bytes());
+        Layout::new(vec![(1, head), (2, nodes), (3, outputs.collect())])
+    }
+
+    /// The file.
+    pub fn bytes(&self) -> Vec<u8> {
+        self.layout().bytes()
+    }
+}
+
+/// A random program that every check accepts: all kinds, nodes used more than once, mostly few of them.
+pub fn valid(random: &mut Random) -> Program {
+    let inputs = match random.below(6) {
+        0 => 0,
+        1 => 64,
+        2 => random.within(0..=64),
+        _ => random.within(1..=4),
+    };
+    let output_count = match random.below(8) {
+        0 => 64,
+        1 => random.within(1..=64),
+        2 => 1,
+        _ => random.within(1..=4),
+    };
+    let node_count = match random.below(256) {
+        0 => 4096,
+        1 => random.within(1..=4096),
+        2..=15 => random.within(1..=300),
+        16..=31 => 1,
+        _ => random.within(1..=24),
+    };
+
+    let nodes: Vec<Node> = (0..node_count).map(|index| valid_node(random, index, inputs)).collect();
+    let outputs: Vec<u16> = (0..output_count).map(|_| operand(random, node_count)).collect();
+    Program::new(inputs as u16, &nodes, &outputs)
+}
+
+fn valid_node(random: &mut Random, index: usize, inputs: usize) -> Node {
+    loop {
+        return match random.below(12) {
+            0 => ZERO,
+            1 => ONE,
+            2..=4 if inputs > 0 => input(random.below(inputs) as u16),
+            5..=6 if index > 0 => not(operand(random, index)),
+            7..=9 if index > 0 => xor(operand(random, index), operand(random, index)),
+            10..=11 if index > 0 => and(operand(random, index), operand(random, index)),
+            _ => continue,
+        };
+    }
+}
+
+/// An index below a limit, every other time one of the last few, so that programs get deep.
+fn operand(random: &mut Random, limit: usize) -> u16 {
+    let nearest = if random.once_in(2) { limit.saturating_sub(3) } else { 0 };
+    random.within(nearest..=limit - 1) as u16
+}
+
+/// A random program file with something changed, mostly so that it is refused.
+pub fn damaged(random: &mut Random) -> Vec<u8> {
+    let mut program = valid(random);
+    // Two damages at a time show that the lowest cause is the one reported.
+    if random.once_in(4) {
+        damage_fields(random, &mut program);
+    }
+    match random.below(9) {
+        0 => {
+            damage_fields(random, &mut program);
+            program.bytes()
+        }
+        1 => {
+            damage_node(random, &mut program);
+            program.bytes()
+        }
+        2 => with_table_damaged(random, program.layout()),
+        3 => with_bodies_resized(random, program.layout()),
+        4 => with_bodies_swapped(random, program.layout()),
+        5 => {
+            let mut file = program.bytes();
+            let reach = random.pick(&[36, file.len()]);
+            let at = random.below(reach);
+            file[at] ^= random.within(1..=255) as u8;
+            file
+        }
+        6 => {
+            let mut file = program.bytes();
+            let any = random.below(file.len());
+            let left = random.pick(&[any, any % 33, file.len() - 1]);
+            file.truncate(left);
+            file
+        }
+        7 => {
+            let added = random.within(1..=8);
+            [program.bytes(), random.bytes(added)].concat()
+        }
+        _ => {
+            let length = random.within(0..=100);
+            let mut file = random.bytes(length);
+            if length >= 2 && random.once_in(2) {
+                file[..2].copy_from_slice(&[3, 0]);
+            }
+            file
+        }
+    }
+}
+
+/// Changes one field of the head, of a node or of an output, mostly to a value next to a limit.
+fn damage_fields(random: &mut Random, program: &mut Program) {
+    match random.below(4) {
+        0 => program.inputs = random.pick(&[0, 1, 63, 64, 65, 256, 65535]),
+        1 => {
+            program.output_count = random.pick(&[0, 1, 2, 63, 64, 65, 256, 320, 32769, 65535]);
+            // With as many outputs as it says, m itself is looked at.
+            if program.output_count <= 320 && !random.once_in(4) {
+                let count = usize::from(program.output_count);
+                program.outputs.resize(count, 0);
+            }
+        }
+        2 if !program.outputs.is_empty() => {
+            let count = program.nodes.len() as u16;
+            let k = random.below(program.outputs.len());
+            program.outputs[k] = random.pick(&[0, count - 1, count, count + 1, 256, 65535]);
+        }
+        _ => damage_node(random, program),
+    }
+}
+
+fn damage_node(random: &mut Random, program: &mut Program) {
+    let i = random.below(program.nodes.len());
+    let index = i as u16;
+    let operands = [
+        0,
+        1,
+        index.saturating_sub(1),
+        index,
+        index + 1,
+        program.inputs.saturating_sub(1),
+        program.inputs,
+        program.nodes.len() as u16,
+        256,
+        65535,
+    ];
+    let node = &mut program.nodes[i];
+    match random.below(4) {
+        0 => node.kind = random.pick(&[0, 1, 2, 3, 4, 5, 6, 17, 255]),
+        1 => node.zero = random.pick(&[1, 128, 255]),
+        2 => node.a = random.pick(&operands),
+        _ => node.b = random.pick(&operands),
+    }
+}
+
+fn with_table_damaged(random: &mut Random, mut layout: Layout) -> Vec<u8> {
+    if random.once_in(6) {
+        layout.entry_count = random.pick(&[0, 1, 2, 4, 259, 65535]);
+        return layout.bytes();
+    }
+    let i = random.below(3);
+    let entry = &mut layout.entries[i];
+    match random.below(3) {
+        0 => entry.tag = random.pick(&[0, 1, 2, 3, 4, 17, 18, 257, 65535]),
+        1 => entry.start = near(random, entry.start),
+        _ => entry.length = near(random, entry.length),
+    }
+    layout.bytes()
+}
+
+fn near(random: &mut Random, number: u32) -> u32 {
+    let step = random.within(1..=8) as u32;
+    let any = random.number() as u32;
+    random.pick(&[
+        number.wrapping_add(step),
+        number.wrapping_sub(step),
+        number ^ 0x8000_0000,
+        number | 0xffff_0000,
+        any,
+    ])
+}
+
+/// Makes a body longer or shorter, at its neighbour's cost or not, and fits the table to it.
+fn with_bodies_resized(random: &mut Random, mut layout: Layout) -> Vec<u8> {
+    let i = random.below(3);
+    let step = random.pick(&[1, 2, 3, 6, 12]);
+    let length = layout.bodies[i].len();
+    match random.below(3) {
+        0 => layout.bodies[i].truncate(length.saturating_sub(step)),
+        1 => layout.bodies[i].resize(length + step, 0),
+        _ => {
+            let moved = layout.bodies[i].split_off(length.saturating_sub(step));
+            let next = &mut layout.bodies[(i + 1) % 3];
+            *next = [moved, next.clone()].concat();
+        }
+    }
+    layout.fitted().bytes()
+}
+
+/// Swaps two bodies, with the table as it was, fitted, or swapped as well.
+fn with_bodies_swapped(random: &mut Random, mut layout: Layout) -> Vec<u8> {
+    let (i, j) = random.pick(&[(0, 1), (1, 2), (0, 2)]);
+    layout.bodies.swap(i, j);
+    match random.below(4) {
+        0 => layout,
+        1 => layout.fitted(),
+        2 => {
+            layout.entries.swap(i, j);
+            layout.fitted()
+        }
+        _ => {
+            // Each entry under its own tag points to where its body now is.
+            layout.entries.swap(i, j);
+            let mut layout = layout.fitted();
+            layout.entries.sort_by_key(|entry: &Entry| entry.tag);
+            layout
+        }
+    }
+    .bytes()
+}

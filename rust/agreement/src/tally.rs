@@ -1,0 +1,55 @@
+//! What a run of random cases has seen.
+
+use std::time::Instant;
+
+use crate::Outcome;
+
+/// Counts of the outcomes of a run, from its start.
+pub struct Tally {
+    service: &'static str,
+    start: Instant,
+    cases: u64,
+    results: u64,
+    refusals: [u64; 16],
+}
+
+impl Tally {
+    /// Starts a run of a service.
+    pub fn new(service: &'static str) -> Tally {
+        Tally { service, start: Instant::now(), cases: 0, results: 0, refusals: [0; 16] }
+    }
+
+    /// Counts a case by the outcome on which both sides agreed.
+    pub fn count<T>(&mut self, outcome: &Outcome<T>) {
+        self.cases += 1;
+        match outcome {
+            Ok(_) => self.results += 1,
+            Err((number, _)) => self.refusals[*number as usize] += 1,
+        }
+    }
+
+    /// Prints the run, and fails unless it was long enough and met results and exactly the
+    /// refusals of the service. The time is that of making a case, of both sides and of comparing.
+    pub fn finish(&self, at_least: u64, refusals: &[usize]) {
+        let service = self.service;
+        let cases = self.cases;
+        let nanoseconds = self.start.elapsed().as_nanos() / u128::from(cases.max(1));
+        println!("{service}: {cases} cases, {nanoseconds} ns a case");
+        println!("{service}: {} results", self.results);
+        for (number, count) in self.refusals.iter().enumerate() {
+            if *count > 0 {
+                println!("{service}: {count} refusals of cause {number}");
+            }
+        }
+
+        assert!(cases >= at_least, "{service}: too few cases");
+        assert!(self.results > 0, "{service}: no result was seen");
+        for (number, count) in self.refusals.iter().enumerate() {
+            assert_eq!(
+                *count > 0,
+                refusals.contains(&number),
+                "{service}: cause {number} was seen {count} times"
+            );
+        }
+    }
+}

@@ -1,0 +1,402 @@
+//! evaluate: the archive beside the model, the value list before and after included.
+
+use agreement::program::{and, input, not, xor, Program, ONE, ZERO};
+use agreement::random::Random;
+use agreement::tally::Tally;
+use agreement::{hex, program, shaped, Outcome};
+
+/// Bytes on either side of the lent value list, which no call may reach.
+const MARGIN: usize = 16;
+
+/// What one call is given.
+struct Case {
+    file: Vec<u8>,
+    values: Vec<u8>,
+    inputs: Vec<u8>,
+    output: u64,
+}
+
+/// What one call gives, and the value list after it.
+type Evaluated = (Outcome<bool>, Vec<u8>);
+
+fn archive(case: &Case) -> Evaluated {
+    let margin = [0xa5; MARGIN];
+    let mut memory = [&margin, &case.values[..], &margin].concat();
+    let values = &mut memory[MARGIN..MARGIN + case.values.len()];
+    let outcome = oracle::evaluate(&case.file, values, &case.inputs, case.output)
+        .map_err(|refusal| (refusal.number, refusal.place));
+
+    let after = memory.split_off(MARGIN + case.values.len());
+    assert_eq!(after, margin, "written past the value list");
+    let values = memory.split_off(MARGIN);
+    assert_eq!(memory, margin, "written before the value list");
+    (outcome, values)
+}
+
+fn model(case: &Case) -> Evaluated {
+    let mut values = case.values.clone();
+    let outcome = model::evaluate::evaluate(&case.file, &mut values, &case.inputs, case.output)
+        .map_err(|refusal| (refusal.number, refusal.place));
+    (outcome, values)
+}
+
+/// Runs both sides on a case and holds them to each other and to what a list may hold afterwards.
+fn compare(tally: &mut Tally, case: &Case) -> Outcome<bool> {
+    let describe = || {
+        format!(
+            "value list of {}, inputs {:?}, output {}, file of {}",
+            case.values.len(),
+            case.inputs,
+            case.output,
+            hex(&case.file)
+        )
+    };
+    let expected = model(case);
+    let (outcome, values) = archive(case);
+    assert_eq!(outcome, expected.0, "the archive, then the model, on {}", describe());
+    assert_eq!(values, expected.1, "the lists of archive and model, {}", describe());
+
+    match outcome {
+        Ok(bit) => {
+            let program = model::program::read(&case.file).expect("a result needs a program");
+            let count = program.nodes.len();
+            let node = program.outputs[case.output as usize];
+            assert_eq!(values[node], u8::from(bit), "the output's node, {}", describe());
+            assert!(values[..count].iter().all(|value| *value <= 1), "{}", describe());
+            assert_eq!(values[count..], case.values[count..], "{}", describe());
+        }
+        Err(_) => assert_eq!(values, case.values, "a refusal leaves the list, {}", describe()),
+    }
+    tally.count(&outcome);
+    outcome
+}
+
+/// A shaped case, with the value list given and the one expected.
+fn check(
+    name: &str,
+    (program, values, inputs, output): (&Program, &[u8], &[u8], u64),
+    expected: Outcome<bool>,
+    expected_values: &[u8],
+) {
+    let case =
+        Case { file: program.bytes(), values: values.to_vec(), inputs: inputs.to_vec(), output };
+    let expected = (expected, expected_values.to_vec());
+    assert_eq!(model(&case), expected, "{name}, model");
+    assert_eq!(archive(&case), expected, "{name}, archive");
+}
+
+#[test]
+fn the_whole_case_on_all_inputs() {
+    let program = shaped::whole_case();
+    let check = |inputs: &[u8], expected, values: &[u8]| {
+        check("the whole case", (&program, &[9; 3], inputs, 0), expected, values);
+    };
+    check(&[0, 0], Ok(false), &[0, 0, 0]);
+    check(&[0, 1], Ok(false), &[0, 1, 0]);
+    check(&[1, 0], Ok(false), &[1, 0, 0]);
+    check(&[1, 1], Ok(true), &[1, 1, 1]);
+}
+
+#[test]
+fn the_other_examples() {
+    let nor = Program::new(2, &[input(0), input(1), not(0), not(1), and(2, 3)], &[4]);
+    check("NOR 0 0", (&nor, &[9; 5], &[0, 0], 0), Ok(true), &[0, 0, 1, 1, 1]);
+    check("NOR 0 1", (&nor, &[9; 5], &[0, 1], 0), Ok(false), &[0, 1, 1, 0, 0]);
+    check("NOR 1 0", (&nor, &[9; 5], &[1, 0], 0), Ok(false), &[1, 0, 0, 1, 0]);
+    check("NOR 1 1", (&nor, &[9; 5], &[1, 1], 0), Ok(false), &[1, 1, 0, 0, 0]);
+
+    let three = Program::new(3, &[input(0), input(1), input(2), and(0, 1), and(3, 2)], &[4]);
+    check("AND 1 1 1", (&three, &[9; 5], &[1, 1, 1], 0), Ok(true), &[1, 1, 1, 1, 1]);
+    check("AND 1 1 0", (&three, &[9; 5], &[1, 1, 0], 0), Ok(false), &[1, 1, 0, 1, 0]);
+    check("AND 0 1 1", (&three, &[9; 5], &[0, 1, 1], 0), Ok(false), &[0, 1, 1, 0, 0]);
+
+    let itself = Program::new(1, &[input(0), xor(0, 0)], &[1]);
+    check("XOR with itself, 0", (&itself, &[9; 2], &[0], 0), Ok(false), &[0, 0]);
+    check("XOR with itself, 1", (&itself, &[9; 2], &[1], 0), Ok(false), &[1, 0]);
+
+    let zero = Program::new(0, &[ZERO], &[0]);
+    check("output ZERO", (&zero, &[9], &[], 0), Ok(false), &[0]);
+}
+
+/// The unfolded sizes are over the compiler's limit from node 15 on; values have no such limit.
+#[test]
+fn the_xor_chain() {
+    let chain = shaped::xor_chain();
+    let after = [0, 0, 0, 0, 0, 0, 0, 0, 0, 0, 0, 0, 0, 0, 1, 0];
+    check("node 13", (&chain, &[9; 16], &[], 0), Ok(false), &after);
+    check("NOT of node 13", (&chain, &[9; 16], &[], 1), Ok(true), &after);
+    check("NOT of that", (&chain, &[9; 16], &[], 2), Ok(false), &after);
+
+    // The chain as long as a program can be, from ONE, with NOT for its last.
+    let mut nodes = vec![ONE];
+    nodes.extend((0..4094).map(|before| and(before, before)));
+    nodes.push(not(4094));
+    let long = Program::new(0, &nodes, &[4094, 4095]);
+    let mut after = [1; 4096];
+    after[4095] = 0;
+    check("node 4094", (&long, &[9; 4096], &[], 0), Ok(true), &after);
+    check("node 4095", (&long, &[9; 4096], &[], 1), Ok(false), &after);
+    check("4096 nodes, 4095 entries", (&long, &[9; 4095], &[], 0), Err((7, 0)), &[9; 4095]);
+}
+
+/// Every kind on every pair of operand values.
+#[test]
+fn truth_tables() {
+    let nodes = [input(0), input(1), ZERO, ONE, not(0), xor(0, 1), and(0, 1), not(1)];
+    let program = Program::new(2, &nodes, &[2, 3, 4, 5, 6]);
+    let check = |inputs: &[u8], output, expected, values: &[u8]| {
+        let name = format!("output {output} on {inputs:?}");
+        check(&name, (&program, &[9; 8], inputs, output), Ok(expected), values);
+    };
+    check(&[0, 0], 0, false, &[0, 0, 0, 1, 1, 0, 0, 1]);
+    check(&[0, 0], 1, true, &[0, 0, 0, 1, 1, 0, 0, 1]);
+    check(&[0, 0], 2, true, &[0, 0, 0, 1, 1, 0, 0, 1]);
+    check(&[0, 0], 3, false, &[0, 0, 0, 1, 1, 0, 0, 1]);
+    check(&[0, 0], 4, false, &[0, 0, 0, 1, 1, 0, 0, 1]);
+    check(&[0, 1], 3, true, &[0, 1, 0, 1, 1, 1, 0, 0]);
+    check(&[0, 1], 4, false, &[0, 1, 0, 1, 1, 1, 0, 0]);
+    check(&[1, 0], 2, false, &[1, 0, 0, 1, 0, 1, 0, 1]);
+    check(&[1, 0], 3, true, &[1, 0, 0, 1, 0, 1, 0, 1]);
+    check(&[1, 0], 4, false, &[1, 0, 0, 1, 0, 1, 0, 1]);
+    check(&[1, 1], 3, false, &[1, 1, 0, 1, 0, 0, 1, 0]);
+    check(&[1, 1], 4, true, &[1, 1, 0, 1, 0, 0, 1, 0]);
+}
+
+#[test]
+fn value_lists() {
+    let program = shaped::whole_case();
+    let check = |name: &str, values: &[u8], expected, after: &[u8]| {
+        check(name, (&program, values, &[1, 0], 0), expected, after);
+    };
+    check("no entry", &[], Err((7, 0)), &[]);
+    check("one entry", &[5], Err((7, 0)), &[5]);
+    check("one entry short", &[5, 6], Err((7, 0)), &[5, 6]);
+    check("as many entries as nodes", &[5, 6, 7], Ok(false), &[1, 0, 0]);
+    check("one entry more", &[5, 6, 7, 8], Ok(false), &[1, 0, 0, 8]);
+    check("later entries 255", &[255; 6], Ok(false), &[1, 0, 0, 255, 255, 255]);
+
+    // 256 and 65536 would be 0 in 8 and in 16 bits.
+    for length in [256, 5000, 65536] {
+        let mut after = vec![3; length];
+        after[..3].copy_from_slice(&[1, 0, 0]);
+        check(&format!("{length} entries"), &vec![3; length], Ok(false), &after);
+    }
+}
+
+#[test]
+fn input_bytes() {
+    let program = shaped::whole_case();
+    let refused = |name, inputs: &[u8]| {
+        check(name, (&program, &[9; 4], inputs, 0), Err((14, 0)), &[9; 4]);
+    };
+    refused("no inputs", &[]);
+    refused("one input short", &[1]);
+    refused("one input more", &[1, 1, 1]);
+    refused("64 inputs", &[0; 64]);
+    refused("258 inputs", &[0; 258]);
+    refused("65538 inputs", &[0; 65538]);
+    refused("input 0 is 2", &[2, 0]);
+    refused("input 1 is 2", &[0, 2]);
+    refused("input 0 is 255", &[255, 0]);
+    refused("input 1 is 255", &[0, 255]);
+    refused("input 1 is 128", &[0, 128]);
+    refused("both are 3", &[3, 3]);
+
+    let none = Program::new(0, &[ONE], &[0]);
+    check("n 0, no inputs", (&none, &[9], &[], 0), Ok(true), &[1]);
+    check("n 0, one input", (&none, &[9], &[0], 0), Err((14, 0)), &[9]);
+
+    // An input that no node uses is checked all the same.
+    let unused = Program::new(64, &[input(63)], &[0]);
+    let mut inputs = [0; 64];
+    inputs[63] = 1;
+    check("input 63 is 1", (&unused, &[9], &inputs, 0), Ok(true), &[1]);
+    check("63 inputs", (&unused, &[9], &inputs[1..], 0), Err((14, 0)), &[9]);
+    check("65 inputs", (&unused, &[9], &[0; 65], 0), Err((14, 0)), &[9]);
+    inputs[62] = 2;
+    check("input 62 is 2", (&unused, &[9], &inputs, 0), Err((14, 0)), &[9]);
+    inputs[62] = 0;
+    inputs[63] = 2;
+    check("input 63 is 2", (&unused, &[9], &inputs, 0), Err((14, 0)), &[9]);
+}
+
+#[test]
+fn output_numbers() {
+    let one = shaped::whole_case();
+    let check_one = |output, expected, after: &[u8]| {
+        let name = format!("m 1, output {output}");
+        check(&name, (&one, &[9; 3], &[1, 1], output), expected, after);
+    };
+    check_one(0, Ok(true), &[1, 1, 1]);
+    check_one(1, Err((15, 0)), &[9; 3]);
+    check_one(2, Err((15, 0)), &[9; 3]);
+    check_one(256, Err((15, 0)), &[9; 3]);
+    check_one(65536, Err((15, 0)), &[9; 3]);
+    check_one(4294967296, Err((15, 0)), &[9; 3]);
+    check_one(9223372036854775808, Err((15, 0)), &[9; 3]);
+    check_one(18446744073709551615, Err((15, 0)), &[9; 3]);
+
+    // Outputs 0 to 62 name ZERO, output 63 names ONE.
+    let mut outputs = [0; 64];
+    outputs[63] = 1;
+    let all = Program::new(0, &[ZERO, ONE], &outputs);
+    let check_all = |output, expected, after: &[u8]| {
+        let name = format!("m 64, output {output}");
+        check(&name, (&all, &[9; 2], &[], output), expected, after);
+    };
+    check_all(0, Ok(false), &[0, 1]);
+    check_all(62, Ok(false), &[0, 1]);
+    check_all(63, Ok(true), &[0, 1]);
+    check_all(64, Err((15, 0)), &[9, 9]);
+    check_all(65, Err((15, 0)), &[9, 9]);
+    check_all(18446744073709551615, Err((15, 0)), &[9, 9]);
+}
+
+#[test]
+fn causes_together() {
+    let good = shaped::whole_case();
+    let bad_output = Program::new(2, &[input(0), input(1), and(0, 1)], &[2, 3]);
+    let check = |name, (program, values, inputs, output): (&Program, &[u8], &[u8], u64), number| {
+        check(name, (program, values, inputs, output), Err(number), values);
+    };
+    check("6, 7, 14 and 15", (&bad_output, &[9], &[2], 5), (6, 1));
+    check("7, 14 and 15", (&good, &[9; 2], &[2, 0], 1), (7, 0));
+    check("7 and 14, a byte", (&good, &[9; 2], &[2, 0], 0), (7, 0));
+    check("7 and 14, the length", (&good, &[9; 2], &[1], 0), (7, 0));
+    check("7 and 15", (&good, &[9; 2], &[1, 1], 1), (7, 0));
+    check("14 and 15, a byte", (&good, &[9; 3], &[2, 0], 1), (14, 0));
+    check("14 and 15, the length", (&good, &[9; 3], &[1], 1), (14, 0));
+    check("15 alone", (&good, &[9; 3], &[1, 0], 1), (15, 0));
+}
+
+/// The refusals of reading come through as they are, whatever else is wrong.
+#[test]
+fn shaped_files_refused_by_the_reader() {
+    let mut refusals = 0;
+    for shaped in shaped::all() {
+        let Err(refusal) = shaped.expected else {
+            continue;
+        };
+        refusals += 1;
+        for (length, inputs, output) in [(70_000, vec![1, 0], 0), (0, vec![2], u64::MAX)] {
+            let case = Case { file: shaped.file.clone(), values: vec![9; length], inputs, output };
+            let expected = (Err(refusal), case.values.clone());
+            assert!(model(&case) == expected, "{}, model", shaped.name);
+            assert!(archive(&case) == expected, "{}, archive", shaped.name);
+        }
+    }
+    println!("evaluate: {refusals} shaped files");
+}
+
+/// Files that the reader accepts, evaluated at their first and last output.
+#[test]
+fn shaped_files_accepted_by_the_reader() {
+    let mut tally = Tally::new("evaluate, shaped files");
+    for shaped in shaped::all() {
+        let Ok(nodes) = shaped.expected else {
+            continue;
+        };
+        let program = model::program::read(&shaped.file).expect(&shaped.name);
+        for output in [0, program.outputs.len() as u64 - 1] {
+            for bit in [0, 1] {
+                let case = Case {
+                    file: shaped.file.clone(),
+                    values: vec![9; nodes as usize + 1],
+                    inputs: vec![bit; program.inputs],
+                    output,
+                };
+                assert!(compare(&mut tally, &case).is_ok(), "{}", shaped.name);
+            }
+        }
+    }
+    tally.finish(100, &[]);
+}
+
+#[test]
+fn random_and_damaged_cases() {
+    let mut random = Random::new(0x6576_616c);
+    let mut tally = Tally::new("evaluate");
+    let mut bits = [0; 2];
+    for _ in 0..32_000 {
+        let case = random_case(&mut random);
+        if let Ok(bit) = compare(&mut tally, &case) {
+            bits[usize::from(bit)] += 1;
+        }
+    }
+    tally.finish(20_000, &[1, 2, 3, 4, 5, 6, 7, 14, 15]);
+    println!("evaluate: {} results 0, {} results 1", bits[0], bits[1]);
+    assert!(bits[0] > 0 && bits[1] > 0);
+}
+
+/// Mostly a good file; then mostly good arguments, otherwise any of them wrong.
+fn random_case(random: &mut Random) -> Case {
+    let file =
+        if random.once_in(3) { program::damaged(random) } else { program::valid(random).bytes() };
+    // Of a refused file no argument is right, and any will do.
+    let (nodes, inputs, outputs) = match model::program::read(&file) {
+        Ok(program) => (program.nodes.len(), program.inputs, program.outputs.len()),
+        Err(_) => (random.within(1..=24), random.within(0..=64), 1),
+    };
+
+    let good = !random.once_in(3);
+    let values = random_values(random, nodes, good);
+    let inputs = random_inputs(random, inputs, good);
+    let output = random_output(random, outputs, good);
+    Case { file, values, inputs, output }
+}
+
+fn random_values(random: &mut Random, nodes: usize, good: bool) -> Vec<u8> {
+    let length = match random.below(if good { 4 } else { 8 }) {
+        0..=1 => nodes,
+        2 => nodes + 1,
+        3 => nodes + random.within(2..=64),
+        4 => nodes - 1,
+        5 => random.below(nodes),
+        6 => 0,
+        _ => nodes,
+    };
+    random.bytes(length)
+}
+
+fn random_inputs(random: &mut Random, count: usize, good: bool) -> Vec<u8> {
+    let mut inputs = random.bits(count);
+    if good || random.once_in(2) {
+        return inputs;
+    }
+    match random.below(5) {
+        0 => {
+            inputs.pop();
+        }
+        1 => inputs.push(0),
+        2 => inputs.clear(),
+        3 => {
+            let length = random.within(0..=130);
+            inputs = random.bits(length);
+        }
+        _ if count > 0 => {
+            let at = random.below(count);
+            inputs[at] = random.pick(&[2, 3, 128, 254, 255]);
+        }
+        _ => inputs.push(2),
+    }
+    inputs
+}
+
+fn random_output(random: &mut Random, count: usize, good: bool) -> u64 {
+    let output = random.below(count) as u64;
+    if good || random.once_in(3) {
+        return output;
+    }
+    let count = count as u64;
+    let any = random.number();
+    random.pick(&[
+        count,
+        count + 1,
+        output + (1 << 8),
+        output + (1 << 16),
+        output + (1 << 32),
+        output + (1 << 63),
+        u64::MAX,
+        any,
+    ])
+}

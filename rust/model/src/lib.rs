@@ -1,0 +1,34 @@
+//! A second reading of document 01, in plain Rust and without the compiler's code: the services
+//! are held against it. Each check stands in the order of the table of causes.
+
+mod contents;
+pub mod evaluate;
+pub mod program;
+
+/// A cause's number, and its place where the table of causes gives one.
+#[derive(Debug, Clone, Copy, PartialEq, Eq)]
+pub struct Refusal {
+    /// The cause.
+    pub number: u64,
+    /// The place, or 0.
+    pub place: u64,
+}
+
+impl Refusal {
+    fn of(number: u64) -> Refusal {
+        Refusal { number, place: 0 }
+    }
+
+    fn at(number: u64, place: usize) -> Refusal {
+        let place = place as u64;
+        Refusal { number, place }
+    }
+}
+
+fn u16_at(bytes: &[u8], at: usize) -> u16 {
+    u16::from_le_bytes([bytes[at], bytes[at + 1]])
+}
+
+fn u32_at(bytes: &[u8], at: usize) -> u32 {
+    u32::from(u16_at(bytes, at)) | u32::from(u16_at(bytes, at + 2)) << 16
+}
