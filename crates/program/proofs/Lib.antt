@@ -1,2 +1,4 @@
+pub mod AcceptedLaws
 pub mod NodeLaws
 pub mod ReadingLaws
+pub mod TreeLaws

@@ -5,7 +5,7 @@ use mathlib.Core.Path.{_≡_, refl, sym, ap, _∙_}
 use mathlib.Core.Bool.{Bool, true, false, cond, _&&_, false≢true}
 use mathlib.Core.List.{List}
 use lib.Dec.{eqb, leb, ltb}
-use borrow.Author.Tests.{eqb-true, leb-true, leb-false, ltb-true, eqb-false}
+use borrow.Author.Tests.{lt-leb, ltb-true, eqb-false}
 use Rattle.wire.proofs.CheckLaws.{by-test, both-first, both-second}
 use Rattle.program.specs.declared.node.Node.{Node}
 use Rattle.program.specs.declared.node.Node.the-variants.{Zero, One, Input, Not, Xor, And}
@@ -27,3 +27,31 @@ module _ (n : ℕ) (body : List ℕ) (i : ℕ) where
   pub read-index : {k : ℕ} → readNode n body i ≡ Bad k → k ≡ i
   unfolding readNode
   read-index {k} e = let z : Bad i ≡ Bad k = simp (read-bad e) at e in cc
+
+-- the operands of a node in order are lower, and its input is below n
+module _ (n i kind a b : ℕ) where
+  above-one : eqb kind 0 ≡ false → eqb kind 1 ≡ false → leb kind 1 ≡ false
+  above-one z o = lt-leb kind 1 (omega (arith, eqb-false kind 0 z, eqb-false kind 1 o))
+
+  operands-ok : operandsFit n i kind a b ≡ true → NodeOk n i (nodeOf kind a b)
+  unfolding operandsFit
+  operands-ok e =
+      by-test (eqb kind 0) (λ k. rw k tt)
+      (λ k0. by-test (eqb kind 1) (λ k. rw (k0, k) tt)
+      (λ k1. let up : leb kind 1 ≡ false = above-one k0 k1 in by-test (eqb kind 2)
+      (λ k. let t : (ltb a n && eqb b 0) ≡ true = simp (up, k) at e in rw (k0, k1, k) (ltb-true a n (both-first (ltb a n) (eqb b 0) t)))
+      (λ k2. by-test (eqb kind 3)
+      (λ k. let t : (ltb a i && eqb b 0) ≡ true = simp (up, k2, k) at e in rw (k0, k1, k2, k) (ltb-true a i (both-first (ltb a i) (eqb b 0) t)))
+      (λ k3. by-test (leb kind 5)
+      (λ k.
+      let t : (ltb a i && ltb b i) ≡ true = simp (up, k2, k3, k) at e in
+      let p : (a < i) × (b < i) = (ltb-true a i (both-first (ltb a i) (ltb b i) t), ltb-true b i (both-second (ltb a i) (ltb b i) t)) in
+      by-test (eqb kind 4) (λ k4. rw (k0, k1, k2, k3, k4) p) (λ k4. rw (k0, k1, k2, k3, k4) p))
+      (λ k. absurd (false≢true (simp (up, k2, k3, k) at e)))))))
+
+-- a node that passes the test of cause 5 is in order
+pub node-ok : (n : ℕ) (body : List ℕ) (i : ℕ) → nodeFits n body i ≡ true → NodeOk n i (nodeAt body i)
+unfolding nodeFits nodeAt
+node-ok n body i e =
+    operands-ok n i (kindAt body i) (aAt body i) (bAt body i)
+    (both-second (eqb (zeroAt body i) 0) (operandsFit n i (kindAt body i) (aAt body i) (bAt body i)) e)

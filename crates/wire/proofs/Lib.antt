@@ -1,3 +1,4 @@
+pub mod AnswerLaws
 pub mod CheckLaws
 pub mod ContentsLaws
 pub mod ListLaws

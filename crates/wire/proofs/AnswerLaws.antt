@@ -1,0 +1,36 @@
+-- Laws of answers: what a chain of checks that ends in a result says of its tests. Assumes nothing.
+use Prim.Native.Nat.{ℕ}
+use native.Mathlib.Omega.{arith}
+use mathlib.Core.Path.{_≡_, refl, sym}
+use mathlib.Core.Bool.{Bool, true, false}
+use Rattle.wire.specs.declared.refusals.Refusal.{Refusal}
+use Rattle.wire.specs.Answers.{Answer, result, refused, refuse, check, mapAnswer}
+use Rattle.wire.proofs.CheckLaws.{by-test}
+
+module _ {A : Type 0} (a : A) (test : Bool) (why : Refusal) (next : Answer A) where
+  never : refuse why ≡ result a → test ≡ true
+  never e = let z : _≡_ {A = ℕ} 0 1 = cc in absurd (omega arith)
+
+  -- the test held
+  pub checked : check test why next ≡ result a → test ≡ true
+  checked e = by-test test (λ t. t) (λ t. never (simp t at e))
+
+  -- and the rest of the chain ends in the result too
+  pub checked-next : check test why next ≡ result a → next ≡ result a
+  checked-next e = simp (checked e) at e
+
+module _ {A B : Type 0} (g : A → B) where
+  -- an answer whose values g reads is a result where it reads as one
+  pub record Came (x : Answer A) (b : B) : Type 0 where
+    pub from : A
+    pub was : x ≡ result from
+    pub reads : b ≡ g from
+
+  pub came : (x : Answer A) (b : B) → result b ≡ mapAnswer g x → Came x b
+  came (result a) b e = record { from = a; was = refl; reads = (cc) }
+  came (refused n p) b e = let z : _≡_ {A = ℕ} 0 1 = cc in absurd (omega arith)
+
+  -- and a refusal where it reads as one
+  pub came-refused : (x : Answer A) (n p : ℕ) → refused n p ≡ mapAnswer g x → x ≡ refused n p
+  came-refused (result a) n p e = let z : _≡_ {A = ℕ} 0 1 = cc in absurd (omega arith)
+  came-refused (refused m q) n p e = let k : m ≡ n = cc in let l : q ≡ p = cc in cc
