@@ -22,7 +22,8 @@ use Rattle.program.specs.declared.reader.ProgramRead.{ProgramRead}
 use Rattle.program.specs.declared.reader.ProgramRead.the-variants.{Good, Refused}
 use Rattle.program.specs.Nodes.{nodeAt, nodeFits}
 use Rattle.program.specs.Programs.{Program, headOf}
-use Rattle.program.specs.Reading.{tags, inputsOf, outputsOf, nodesOf, lengthsFit, rangesFit, outputAt, outputFits, programOf, readBodies, readProgram, programRead, Laid, Sized}
+use Rattle.program.specs.Layout.{Laid, Sized}
+use Rattle.program.specs.Reading.{tags, inputsOf, outputsOf, nodesOf, lengthsFit, rangesFit, outputAt, outputFits, programOf, readBodies, readProgram, programRead}
 use Rattle.program.specs.Trees.{trees, NodeOk, TableOk}
 use Rattle.program.specs.Exprs.{ZERO, InputsBelow}
 use Rattle.program.proofs.NodeLaws.{node-ok}

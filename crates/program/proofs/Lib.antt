@@ -2,3 +2,4 @@ pub mod AcceptedLaws
 pub mod NodeLaws
 pub mod ReadingLaws
 pub mod TreeLaws
+pub mod ValueLaws

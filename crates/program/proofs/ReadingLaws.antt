@@ -15,7 +15,8 @@ use Rattle.wire.specs.Answers.{Answer, result}
 use Rattle.program.specs.declared.reader.Head.{Head}
 use Rattle.program.specs.Nodes.{nodeAt}
 use Rattle.program.specs.Programs.{headOf}
-use Rattle.program.specs.Reading.{tags, inputsOf, outputsOf, nodesOf, lengthsFit, outputAt, programOf, Laid, Sized}
+use Rattle.program.specs.Layout.{Laid, Sized}
+use Rattle.program.specs.Reading.{tags, inputsOf, outputsOf, nodesOf, lengthsFit, outputAt, programOf}
 
 module _ (f : List ℕ) where
   -- causes 1 and 2 passed

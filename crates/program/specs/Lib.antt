@@ -1,4 +1,5 @@
 pub mod Exprs
+pub mod Layout
 pub mod Nodes
 pub mod Programs
 pub mod Reading

@@ -1,13 +1,12 @@
 -- Reading a program file, check by check in the order of 01's table.
-use Prim.Native.Nat.{ℕ, _+_, _*_, _/_, _%_, _≤_}
-use mathlib.Core.Path.{_≡_}
+use Prim.Native.Nat.{ℕ, _*_, _/_, _%_}
 use mathlib.Core.Bool.{Bool, _&&_}
 use mathlib.Core.List.{List, [], _∷_}
 use lib.ListN.{length}
 use lib.Dec.{eqb, leb, ltb}
 use Rattle.wire.specs.Answers.{Answer, result, refuse, check, checkEach}
 use Rattle.wire.specs.Bytes.{at16}
-use Rattle.wire.specs.Contents.{tableLength, tableFits, entriesFit, entryStart, entryLength, bodyOf}
+use Rattle.wire.specs.Contents.{tableFits, entriesFit, entryLength, bodyOf}
 use Rattle.wire.specs.Lists.{tabulate}
 use Rattle.wire.specs.declared.refusals.Refusal.the-variants as cause
 use Rattle.program.specs.declared.reader.Head.{Head}
@@ -79,20 +78,3 @@ readProgram f =
 abbrev pub programRead : ProgramRead → Answer Head
 programRead (Good head) = result head
 programRead (Refused why) = refuse why
-
--- a file that passes causes 1 and 2: each body lies within it, one behind the other
-pub record Laid (f : List ℕ) : Type 0 where
-  pub whole : tableLength 3 ≤ length f
-  pub first : entryStart f 0 ≡ tableLength 3
-  pub second : entryStart f 1 ≡ entryStart f 0 + entryLength f 0
-  pub third : entryStart f 2 ≡ entryStart f 1 + entryLength f 1
-  pub last : entryStart f 2 + entryLength f 2 ≡ length f
-
--- a file that passes cause 3 too
-pub record Sized (f : List ℕ) : Type 0 where
-  pub laid : Laid f
-  pub four : entryLength f 0 ≡ 4
-  pub sixes : entryLength f 1 ≡ 6 * nodesOf f
-  pub some : 1 ≤ nodesOf f
-  pub most : nodesOf f ≤ 4096
-  pub twos : entryLength f 2 ≡ 2 * outputsOf f

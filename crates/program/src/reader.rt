@@ -15,7 +15,8 @@ ghost use Rattle.wire.specs.Checks.{lowest};
 ghost use Rattle.wire.specs.Contents.{bodyOf};
 ghost use Rattle.program.specs.Nodes.{nodeFits};
 ghost use Rattle.program.specs.Programs.{headOf};
-ghost use Rattle.program.specs.Reading.{outputFits, lengthsFit, rangesFit, readBodies, readProgram, programRead, Laid, Sized};
+ghost use Rattle.program.specs.Layout.{Laid, Sized};
+ghost use Rattle.program.specs.Reading.{outputFits, lengthsFit, rangesFit, readBodies, readProgram, programRead};
 
 // How many inputs, outputs and nodes a program has.
 pub struct Head {

@@ -1,4 +1,5 @@
 pub mod AnswerLaws
+pub mod BitLaws
 pub mod CheckLaws
 pub mod ContentsLaws
 pub mod ListLaws

@@ -1,0 +1,137 @@
+-- Laws of evaluating: the answer and the value list at exit, case by case. Assumes nothing.
+use Prim.Native.Nat.{ℕ, _+_, _*_, _/_, _<_, _≤_}
+use native.Mathlib.Omega.{arith}
+use mathlib.Core.Path.{_≡_, refl, sym, ap, ap₂, _∙_}
+use mathlib.Core.Bool.{true, false}
+use mathlib.Core.List.{List, _++_}
+use lib.ListN.{length, getD, drop, List·getD-append}
+use lib.Dec.{leb, ltb}
+use borrow.Author.Tests.{le-leb, lt-leb, lt-ltb, le-ltb}
+use Rattle.wire.specs.Answers.{Answer, result, refused, refuse}
+use Rattle.wire.specs.Bits.{bit, Bits, bitsFit}
+use Rattle.wire.specs.Contents.{bodyOf}
+use Rattle.wire.specs.Lists.{tabulate}
+use Rattle.wire.specs.declared.refusals.Refusal.{Refusal}
+use Rattle.wire.specs.declared.refusals.Refusal.the-variants as cause
+use Rattle.wire.proofs.BitLaws.{bits-count, bits-are}
+use Rattle.program.specs.declared.node.Node.{Node}
+use Rattle.program.specs.declared.reader.Head.{Head}
+use Rattle.program.specs.Exprs.{ZERO, value}
+use Rattle.program.specs.Nodes.{nodeAt}
+use Rattle.program.specs.Programs.{Program, outputTree, outputValue, nodeValues}
+use Rattle.program.specs.Reading.{inputsOf, outputsOf, nodesOf, outputAt, programOf, readProgram}
+use Rattle.program.specs.Trees.{trees, TableOk}
+use Rattle.program.proofs.AcceptedLaws.{Accepted, Read, nodes-length, outputs-length, output-is, inputs-is, table-ok, outputs-ok}
+use Rattle.program.proofs.ReadingLaws.{nodes-counted, outputs-long}
+use Rattle.program.proofs.ValueLaws.{values-length, values-at}
+use Rattle.evaluate.specs.Evaluating.{Found, evaluateProgram, evaluateFile, evaluateOf}
+use Rattle.evaluate.specs.Filling.{nodesIn, Fillable}
+
+module _ (f list x : List ℕ) (k : ℕ) where
+  -- the answer a and the value list l are those of the service's definition
+  pub record Outcome (a : Answer ℕ) (l : List ℕ) : Type 0 where
+    pub answer : a ≡ evaluateOf f list x k .answer
+    pub values : l ≡ evaluateOf f list x k .values
+
+  -- a refusal leaves the list as it was
+  pub refuses : (n p : ℕ) → evaluateFile f (length list) x k ≡ refused n p → Outcome (refused n p) list
+  unfolding evaluateOf
+  refuses n p e = record { answer = rw e refl; values = rw e refl }
+
+  -- a result fills it
+  pub finds : (b : ℕ) (vs : List ℕ) → evaluateFile f (length list) x k ≡ result (record { bit = b; values = vs }) → Outcome (result b) (vs ++ drop (length vs) list)
+  unfolding evaluateOf
+  finds b vs e = record { answer = rw e refl; values = rw e refl }
+
+  -- the reader's refusal is passed on
+  pub reader-refuses : (n p : ℕ) → readProgram f ≡ refused n p → Outcome (refused n p) list
+  unfolding evaluateFile
+  reader-refuses n p e = refuses n p (rw e refl)
+
+  module _ {h : Head} (r : Read f h) where
+    head-nodes : h .nodes ≡ length (programOf f .nodes)
+    head-nodes = ap (λ (t : Head). t .nodes) (r .head)
+
+    head-inputs : h .inputs ≡ programOf f .inputs
+    head-inputs = ap (λ (t : Head). t .inputs) (r .head)
+
+    head-outputs : h .outputs ≡ length (programOf f .outputs)
+    head-outputs = ap (λ (t : Head). t .outputs) (r .head)
+
+    program-is : evaluateFile f (length list) x k ≡ evaluateProgram (programOf f) (length list) x k
+    unfolding evaluateFile
+    program-is = rw (r .accepts .is) refl
+
+    pub list-short : length list < h .nodes → Outcome (refuse cause.ListLength) list
+    unfolding evaluateProgram
+    list-short s = refuses 7 0 (program-is ∙ simp (lt-leb (length (programOf f .nodes)) (length list) (omega (arith, head-nodes))))
+
+    module _ (room : h .nodes ≤ length list) where
+      fits : leb (length (programOf f .nodes)) (length list) ≡ true
+      fits = le-leb (length (programOf f .nodes)) (length list) (omega (arith, head-nodes))
+
+      pub inputs-bad : bitsFit (h .inputs) x ≡ false → Outcome (refuse cause.InputBytes) list
+      unfolding evaluateProgram
+      inputs-bad e = refuses 14 0 (program-is ∙ simp (fits, ap (λ (n : ℕ). bitsFit n x) (sym head-inputs) ∙ e))
+
+      module _ (e : bitsFit (h .inputs) x ≡ true) where
+        right : bitsFit (programOf f .inputs) x ≡ true
+        right = ap (λ (n : ℕ). bitsFit n x) (sym head-inputs) ∙ e
+
+        pub output-bad : h .outputs ≤ k → Outcome (refuse cause.OutputNumber) list
+        unfolding evaluateProgram
+        output-bad s = refuses 15 0 (program-is ∙ simp (fits, right, le-ltb k (length (programOf f .outputs)) (omega (arith, head-outputs))))
+
+        same-nodes : nodesIn (bodyOf f 1) ≡ programOf f .nodes
+        unfolding programOf
+        same-nodes = ap (tabulate (nodeAt (bodyOf f 1))) (nodes-counted f (r .accepts .sized))
+
+        -- the nodes can be evaluated
+        pub fillable : Fillable (bodyOf f 1) x (length list)
+        fillable =
+            let n : length x ≡ inputsOf f = bits-count (h .inputs) x e ∙ head-inputs ∙ inputs-is f (r .accepts) in
+            record {
+              ok = rw (n, same-nodes) (table-ok f (r .accepts));
+              bits = bits-are (h .inputs) x e;
+              fits = omega (arith, nodes-counted f (r .accepts .sized), head-nodes, nodes-length f (r .accepts));
+            }
+
+        module _ (s : k < h .outputs) where
+          within : k < outputsOf f
+          within = omega (arith, head-outputs, outputs-length f (r .accepts))
+
+          pub output-few : k < 64
+          output-few = omega (arith, within, r .accepts .outputs-most)
+
+          -- the output's entry is there, and the node that it names has a value
+          pub output-there : 2 * k + 2 ≤ length (bodyOf f 2)
+          output-there = omega (arith, within, outputs-long f (r .accepts .sized .laid), r .accepts .sized .twos)
+
+          pub node-there : outputAt (bodyOf f 2) k < length list
+          node-there = omega (arith, r .accepts .outputs-fit k within, head-nodes, nodes-length f (r .accepts))
+
+          all-counted : length (nodeValues (programOf f .nodes) x) ≡ nodesOf f
+          all-counted = values-length (programOf f .nodes) x ∙ nodes-length f (r .accepts)
+
+          -- the value of the output is the value of the node that it names
+          output-value : getD (nodeValues (programOf f .nodes) x) (outputAt (bodyOf f 2) k) 0 ≡ outputValue (programOf f) x k
+          unfolding outputValue outputTree
+          output-value =
+              values-at (programOf f .nodes) x (outputAt (bodyOf f 2) k)
+              ∙ ap (λ (i : ℕ). value (getD (trees (programOf f .nodes)) i ZERO) x) (sym (output-is f (r .accepts) k within))
+
+          found : evaluateFile f (length list) x k ≡ result (record { bit = outputValue (programOf f) x k; values = nodeValues (programOf f .nodes) x })
+          unfolding evaluateProgram
+          found = program-is ∙ simp (fits, right, lt-ltb k (length (programOf f .outputs)) (omega (arith, head-outputs)))
+
+          pub output-found : (l : List ℕ) → l ≡ nodeValues (nodesIn (bodyOf f 1)) x ++ drop (length (bodyOf f 1) / 6) list → Outcome (result (getD l (outputAt (bodyOf f 2) k) 0)) l
+          output-found l w =
+              let all : List ℕ = nodeValues (programOf f .nodes) x in
+              let o = finds (outputValue (programOf f) x k) all found in
+              let is : l ≡ all ++ drop (length all) list =
+              w ∙ ap₂ (λ (ns : List Node) (n : ℕ). nodeValues ns x ++ drop n list) same-nodes (nodes-counted f (r .accepts .sized) ∙ sym all-counted) in
+              let bit-is : getD l (outputAt (bodyOf f 2) k) 0 ≡ outputValue (programOf f) x k =
+              ap (λ (v : List ℕ). getD v (outputAt (bodyOf f 2) k) 0) is
+              ∙ List·getD-append all (drop (length all) list) 0 (outputAt (bodyOf f 2) k) (omega (arith, all-counted, r .accepts .outputs-fit k within))
+              ∙ output-value in
+              record { answer = ap result bit-is ∙ o .answer; values = is ∙ o .values }

@@ -1,0 +1,2 @@
+pub mod EvaluateLaws
+pub mod FillLaws

@@ -1,0 +1,73 @@
+use borrow.Author.Needs.{needs}
+use Prim.Native.Nat.{_-_, _/_}
+use mathlib.Core.Path.{sym, ap, _∙_}
+use native.Mathlib.Omega.{arith}
+use lib.ListN.{length, take}
+use lib.Seq.{length-take-le}
+use denote.Ref.{now}
+use Rattle.program.specs.declared.node.Node.{Node}
+use Rattle.program.specs.Programs.{nodeValue}
+use Rattle.evaluate.proofs.FillLaws.{Filled, filled-start, filled-valued, filled-next, filled-all}
+use Rattle.evaluate.proofs.values.fill_values.Statement.{statement}
+use Rattle.evaluate.proofs.values.fill_values.Tie as tie
+use Rattle.evaluate.proofs.values.fill_values.Reads as reads
+use Rattle.evaluate.proofs.values.fill_values.Lts as lts
+use Rattle.evaluate.proofs.values.node_value.Reads as node-value-reads
+use Rattle.program.proofs.node.node_at.Reads as node-at-reads
+
+abbrev Inv-loop : tie.InvT-loop
+Inv-loop nodes inputs values₀ i₀ values i = Filled nodes inputs values₀ values i
+
+abbrev μ-loop : tie.MeasureT-loop
+μ-loop nodes inputs values₀ i₀ values i = length nodes / 6 - i
+
+loop-holds : tie.Need-loop-holds Inv-loop μ-loop
+loop-holds c = filled-start _ _ _
+
+node-at-requires : tie.Need-node-at-requires Inv-loop μ-loop
+node-at-requires c κs = search needs
+
+slice-reshare-prefix-node-value : tie.Need-slice-reshare-prefix-node-value Inv-loop μ-loop
+slice-reshare-prefix-node-value c = omega (arith, c .before .before .loop .inv .within, c .before .before .loop .inv .same, c .before .before .before .before .before .before .pre .fits)
+
+slice-aggregate-node-value : tie.Need-slice-aggregate-node-value Inv-loop μ-loop
+slice-aggregate-node-value c = sym (length-take-le _ _ (omega (arith, c .before .before .before .loop .inv .within, c .before .before .before .loop .inv .same, c .before .before .before .before .before .before .before .pre .fits)))
+
+node-value-requires : tie.Need-node-value-requires Inv-loop μ-loop
+node-value-requires c κs = rw (c .before .node-at .ensures) (filled-valued _ _ _ (c .before .before .before .loop .inv) (c .before .before .before .before .before .before .before .pre) (c .before .before .loop-test .taken))
+
+slice-write-values : tie.Need-slice-write-values Inv-loop μ-loop
+slice-write-values c = omega (arith, c .before .before .before .loop-test .taken, c .before .before .before .before .loop .inv .same, c .before .before .before .before .before .before .before .before .pre .fits)
+
+add-i : tie.Need-add-i Inv-loop μ-loop
+add-i c = search needs
+
+loop-less : tie.Need-loop-less Inv-loop μ-loop
+loop-less c = search needs
+
+loop-again : tie.Need-loop-again Inv-loop μ-loop
+loop-again c = filled-next _ _ _ (c .before .before .before .before .loop .inv) (c .before .before .before .before .before .before .before .before .pre) (c .before .before .before .loop-test .taken) (c .node-value .ensures ∙ ap (λ (o : Node). nodeValue o (take (c .before .before .before .before .loop .i) (c .before .before .before .before .loop .values)) (now (c .before .before .before .before .before .before .before .before .args .inputs))) (c .before .before .node-at .ensures))
+
+same-length : tie.Need-same-length Inv-loop μ-loop
+same-length c = c .before .loop .inv .same
+
+returns : tie.Need-returns Inv-loop μ-loop
+returns c = filled-all _ _ _ (c .before .loop .inv) (c .loop-test .left)
+
+pub fill-values-spec : {M : Type 1} → statement M
+fill-values-spec =
+    tie.close
+    (tie.spec
+    Inv-loop
+    μ-loop
+    loop-holds
+    node-at-requires
+    slice-reshare-prefix-node-value
+    slice-aggregate-node-value
+    node-value-requires
+    slice-write-values
+    add-i
+    loop-less
+    loop-again
+    same-length
+    returns)

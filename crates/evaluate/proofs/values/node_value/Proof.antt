@@ -1,0 +1,130 @@
+use mathlib.Core.Path.{refl}
+use native.Mathlib.Omega.{arith}
+use Rattle.program.specs.Programs.{nodeValue}
+use Rattle.evaluate.proofs.FillLaws.{input-there, not-operand, xor-first, xor-second, and-first, and-second}
+use borrow.Author.Needs.{needs}
+use Rattle.evaluate.proofs.values.node_value.Statement.{statement}
+use Rattle.evaluate.proofs.values.node_value.Tie as tie
+use Rattle.evaluate.proofs.values.node_value.Reads as reads
+use Rattle.evaluate.proofs.values.node_value.Lts as lts
+use Rattle.wire.proofs.bits.and_bits.Reads as and-bits-reads
+use Rattle.wire.proofs.bits.xor_bits.Reads as xor-bits-reads
+
+enum-told : tie.Need-enum-told
+enum-told c = search needs
+
+enum-told-2 : tie.Need-enum-told-2
+enum-told-2 c = search needs
+
+enum-known-node : tie.Need-enum-known-node
+enum-known-node c = search needs
+
+cast-result : tie.Need-cast-result
+cast-result c = search needs
+
+shared-slice-read-result : tie.Need-shared-slice-read-result
+shared-slice-read-result c = input-there (c .before .before .before .before .before .before .pre) (c .before .before .node .given .1)
+
+enum-known-node-2 : tie.Need-enum-known-node-2
+enum-known-node-2 c = search needs
+
+cast-xor-bits : tie.Need-cast-xor-bits
+cast-xor-bits c = search needs
+
+shared-slice-read-xor-bits : tie.Need-shared-slice-read-xor-bits
+shared-slice-read-xor-bits c = not-operand (c .before .before .before .before .before .before .pre) (c .before .before .node2 .given .1) .there
+
+xor-bits-requires : tie.Need-xor-bits-requires
+xor-bits-requires c κs = (omega arith, not-operand (c .before .before .before .before .before .before .pre) (c .before .before .node2 .given .1) .is-bit)
+
+enum-known-node-3 : tie.Need-enum-known-node-3
+enum-known-node-3 c = search needs
+
+cast-xor-bits-2 : tie.Need-cast-xor-bits-2
+cast-xor-bits-2 c = search needs
+
+shared-slice-read-xor-bits-2 : tie.Need-shared-slice-read-xor-bits-2
+shared-slice-read-xor-bits-2 c = xor-first (c .before .before .before .before .before .before .pre) (c .before .before .node3 .given .1) .there
+
+cast-xor-bits-3 : tie.Need-cast-xor-bits-3
+cast-xor-bits-3 c = search needs
+
+shared-slice-read-xor-bits-3 : tie.Need-shared-slice-read-xor-bits-3
+shared-slice-read-xor-bits-3 c = xor-second (c .before .before .before .before .before .before .before .pre) (c .before .before .before .node3 .given .1) .there
+
+xor-bits-requires-2 : tie.Need-xor-bits-requires-2
+xor-bits-requires-2 c κs = (xor-first (c .before .before .before .before .before .before .before .pre) (c .before .before .before .node3 .given .1) .is-bit, xor-second (c .before .before .before .before .before .before .before .pre) (c .before .before .before .node3 .given .1) .is-bit)
+
+enum-known-node-4 : tie.Need-enum-known-node-4
+enum-known-node-4 c = search needs
+
+cast-and-bits : tie.Need-cast-and-bits
+cast-and-bits c = search needs
+
+shared-slice-read-and-bits : tie.Need-shared-slice-read-and-bits
+shared-slice-read-and-bits c = and-first (c .before .before .before .before .before .before .pre) (c .before .before .node4 .given .1) .there
+
+cast-and-bits-2 : tie.Need-cast-and-bits-2
+cast-and-bits-2 c = search needs
+
+shared-slice-read-and-bits-2 : tie.Need-shared-slice-read-and-bits-2
+shared-slice-read-and-bits-2 c = and-second (c .before .before .before .before .before .before .before .pre) (c .before .before .before .node4 .given .1) .there
+
+and-bits-requires : tie.Need-and-bits-requires
+and-bits-requires c κs = (and-first (c .before .before .before .before .before .before .before .pre) (c .before .before .before .node4 .given .1) .is-bit, and-second (c .before .before .before .before .before .before .before .pre) (c .before .before .before .node4 .given .1) .is-bit)
+
+returns : tie.Need-returns
+unfolding nodeValue
+returns c = rw (c .enum-told .given .1) refl
+
+returns-2 : tie.Need-returns-2
+unfolding nodeValue
+returns-2 c = rw (c .enum-told2 .given .1) refl
+
+returns-3 : tie.Need-returns-3
+unfolding nodeValue
+returns-3 c = rw (c .before .before .node .given .1) refl
+
+returns-4 : tie.Need-returns-4
+unfolding nodeValue
+returns-4 c = rw (c .before .before .before .node2 .given .1) (c .xor-bits .ensures)
+
+returns-5 : tie.Need-returns-5
+unfolding nodeValue
+returns-5 c = rw (c .before .before .before .before .node3 .given .1) (c .xor-bits2 .ensures)
+
+returns-6 : tie.Need-returns-6
+unfolding nodeValue
+returns-6 c = rw (c .before .before .before .before .node4 .given .1) (c .and-bits .ensures)
+
+pub node-value-spec : {M : Type 1} → statement M
+node-value-spec =
+    tie.close
+    (tie.spec
+    enum-told
+    enum-told-2
+    enum-known-node
+    cast-result
+    shared-slice-read-result
+    enum-known-node-2
+    cast-xor-bits
+    shared-slice-read-xor-bits
+    xor-bits-requires
+    enum-known-node-3
+    cast-xor-bits-2
+    shared-slice-read-xor-bits-2
+    cast-xor-bits-3
+    shared-slice-read-xor-bits-3
+    xor-bits-requires-2
+    enum-known-node-4
+    cast-and-bits
+    shared-slice-read-and-bits
+    cast-and-bits-2
+    shared-slice-read-and-bits-2
+    and-bits-requires
+    returns
+    returns-2
+    returns-3
+    returns-4
+    returns-5
+    returns-6)

@@ -1,0 +1,51 @@
+-- Evaluating an output, check by check in the order of 01's table.
+use Prim.Native.Nat.{ℕ}
+use mathlib.Core.List.{List, _++_}
+use lib.ListN.{length, drop}
+use lib.Dec.{leb, ltb}
+use Rattle.wire.specs.Answers.{Answer, result, refused, refuse, check, andThen, mapAnswer}
+use Rattle.wire.specs.Bits.{bitsFit}
+use Rattle.wire.specs.declared.refusals.Refusal.the-variants as cause
+use Rattle.program.specs.Programs.{Program, outputValue, nodeValues}
+use Rattle.program.specs.Reading.{readProgram}
+use Rattle.evaluate.specs.declared.Evaluated.{Evaluated}
+use Rattle.evaluate.specs.declared.Evaluated.the-variants.{Value, Refused}
+
+-- what is found on a result: the output's value, and every node's
+pub record Found : Type 0 where
+  pub bit : ℕ
+  pub values : List ℕ
+
+-- evaluating an output of a program, with room for so many values
+unfoldable pub evaluateProgram : Program → ℕ → List ℕ → ℕ → Answer Found
+evaluateProgram p room inputs output =
+    check (leb (length (p .nodes)) room) cause.ListLength
+    (check (bitsFit (p .inputs) inputs) cause.InputBytes
+    (check (ltb output (length (p .outputs))) cause.OutputNumber
+    (result (record { bit = outputValue p inputs output; values = nodeValues (p .nodes) inputs }))))
+
+-- evaluating an output of a program file
+unfoldable pub evaluateFile : List ℕ → ℕ → List ℕ → ℕ → Answer Found
+evaluateFile file room inputs output = andThen (readProgram file) (λ p. evaluateProgram p room inputs output)
+
+-- the value list at exit: on a result the nodes' values, later entries as they were; on a refusal as it was
+abbrev pub filled : Answer Found → List ℕ → List ℕ
+filled (result found) list = found .values ++ drop (length (found .values)) list
+filled (refused n p) list = list
+
+-- what the service answers, and what it leaves in the lent value list
+pub record Evaluating : Type 0 where
+  pub answer : Answer ℕ
+  pub values : List ℕ
+
+unfoldable pub evaluateOf : List ℕ → List ℕ → List ℕ → ℕ → Evaluating
+evaluateOf file list inputs output =
+    record {
+      answer = mapAnswer (λ found. found .bit) (evaluateFile file (length list) inputs output);
+      values = filled (evaluateFile file (length list) inputs output) list;
+    }
+
+-- the service's answer in 01's terms: the output's value, or a number and a place
+abbrev pub evaluated : Evaluated → Answer ℕ
+evaluated (Value bit) = result bit
+evaluated (Refused why) = refuse why

@@ -1,0 +1,43 @@
+-- Laws of bits. Assumes nothing.
+use Prim.Native.Nat.{ℕ, _*_, _<_}
+use native.Mathlib.Omega.{arith}
+use native.Mathlib.Nat.{zero-mul, one-mul}
+use native.Mathlib.Decide.{decLt}
+use mathlib.Core.Path.{_≡_}
+use mathlib.Core.Bool.{Bool, true, false, _&&_}
+use mathlib.Core.List.{List}
+use lib.ListN.{length, List·getD-eq-default}
+use lib.Dec.{eqb, ltb}
+use borrow.Author.Tests.{eqb-true, ltb-true, ltb-false, eqb-false}
+use Rattle.wire.specs.Bits.{xorBit, bit, Bits, bitsFit}
+use Rattle.wire.specs.Checks.{allBelow}
+use Rattle.wire.proofs.CheckLaws.{by-test, both-first, both-second, all-below}
+
+-- XOR and AND of bits are bits
+pub xor-bit : (a b : ℕ) → xorBit a b < 2
+unfolding xorBit
+xor-bit a b = omega arith
+
+pub and-bit : (a b : ℕ) → a < 2 → b < 2 → a * b < 2
+and-bit a b h g =
+    by-test (eqb a 0)
+    (λ e. let z : a ≡ 0 = eqb-true a 0 e in rw (z, zero-mul b) (omega arith))
+    (λ e. let z : a ≡ 1 = omega (arith, eqb-false a 0 e) in rw (z, one-mul b) g)
+
+-- past the last bit there are zeros
+pub bit-below : (s : List ℕ) → Bits s → (i : ℕ) → bit s i < 2
+bit-below s h i =
+    by-test (ltb i (length s))
+    (λ e. h i (ltb-true i (length s) e))
+    (λ e. let z : bit s i ≡ 0 = List·getD-eq-default s 0 (ltb-false i (length s) e) in omega (arith, z))
+
+-- where the test of the bytes held, there are n of them and each is a bit
+pub bits-count : (n : ℕ) (s : List ℕ) → bitsFit n s ≡ true → length s ≡ n
+unfolding bitsFit
+bits-count n s e = eqb-true (length s) n (both-first (eqb (length s) n) (allBelow (λ i. ltb (bit s i) 2) (length s)) e)
+
+pub bits-are : (n : ℕ) (s : List ℕ) → bitsFit n s ≡ true → Bits s
+unfolding bitsFit
+bits-are n s e i h =
+    ltb-true (bit s i) 2
+    (all-below (λ (k : ℕ). ltb (bit s k) 2) (length s) (both-second (eqb (length s) n) (allBelow (λ k. ltb (bit s k) 2) (length s)) e) i h)
