@@ -34,3 +34,8 @@ module _ {A B : Type 0} (g : A → B) where
   pub came-refused : (x : Answer A) (n p : ℕ) → refused n p ≡ mapAnswer g x → x ≡ refused n p
   came-refused (result a) n p e = let z : _≡_ {A = ℕ} 0 1 = cc in absurd (omega arith)
   came-refused (refused m q) n p e = let k : m ≡ n = cc in let l : q ≡ p = cc in cc
+
+-- values read one after the other
+pub mapped-twice : {A B C : Type 0} (g : A → B) (h : B → C) (x : Answer A) → mapAnswer h (mapAnswer g x) ≡ mapAnswer (λ a. h (g a)) x
+mapped-twice g h (result a) = refl
+mapped-twice g h (refused n p) = refl

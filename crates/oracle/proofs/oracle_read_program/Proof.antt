@@ -1,0 +1,44 @@
+use mathlib.Core.Path.{sym, ap, _∙_}
+use Rattle.wire.specs.Answers.{Answer, mapAnswer}
+use Rattle.wire.proofs.AnswerLaws.{mapped-twice}
+use Rattle.program.specs.declared.reader.Head.{Head}
+use Rattle.program.specs.declared.reader.ProgramRead.{ProgramRead}
+use Rattle.program.specs.Programs.{headOf}
+use Rattle.program.specs.Reading.{readProgram, programRead}
+use Rattle.oracle.specs.Exported.{exported}
+use borrow.Author.Needs.{needs}
+use Rattle.oracle.proofs.oracle_read_program.Statement.{statement}
+use Rattle.oracle.proofs.oracle_read_program.Tie as tie
+use Rattle.oracle.proofs.oracle_read_program.Reads as reads
+use Rattle.oracle.proofs.oracle_read_program.Lts as lts
+use Rattle.oracle.proofs.refusal.Reads as refusal-reads
+use Rattle.program.proofs.reader.read_program.Reads as read-program-reads
+
+read-program-requires : tie.Need-read-program-requires
+read-program-requires c κs = search needs
+
+enum-known-head : tie.Need-enum-known-head
+enum-known-head c = search needs
+
+enum-known-why : tie.Need-enum-known-why
+enum-known-why c = search needs
+
+refusal-requires : tie.Need-refusal-requires
+refusal-requires c κs = search needs
+
+returns : tie.Need-returns
+returns c = ap (λ (a : ProgramRead). exported (mapAnswer (λ (h : Head). h .nodes) (programRead a))) (sym (c .before .head .given .1)) ∙ ap (λ (a : Answer Head). exported (mapAnswer (λ (h : Head). h .nodes) a)) (c .before .before .before .read-program .ensures) ∙ ap exported (mapped-twice headOf (λ (h : Head). h .nodes) (readProgram (c .before .before .before .before .before .args .file .now)))
+
+returns-2 : tie.Need-returns-2
+returns-2 c = c .refusal .ensures ∙ ap (λ (a : ProgramRead). exported (mapAnswer (λ (h : Head). h .nodes) (programRead a))) (sym (c .before .before .why .given .1)) ∙ ap (λ (a : Answer Head). exported (mapAnswer (λ (h : Head). h .nodes) a)) (c .before .before .before .before .read-program .ensures) ∙ ap exported (mapped-twice headOf (λ (h : Head). h .nodes) (readProgram (c .before .before .before .before .before .before .args .file .now)))
+
+pub oracle-read-program-spec : {M : Type 1} → statement M
+oracle-read-program-spec =
+    tie.close
+    (tie.spec
+    read-program-requires
+    enum-known-head
+    enum-known-why
+    refusal-requires
+    returns
+    returns-2)
