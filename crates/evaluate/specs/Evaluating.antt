@@ -19,9 +19,9 @@ pub record Found : Type 0 where
 -- evaluating an output of a program, with room for so many values
 unfoldable pub evaluateProgram : Program → ℕ → List ℕ → ℕ → Answer Found
 evaluateProgram p room inputs output =
-    check (leb (length (p .nodes)) room) cause.ListLength
-    (check (bitsFit (p .inputs) inputs) cause.InputBytes
-    (check (ltb output (length (p .outputs))) cause.OutputNumber
+    check (leb (length (p .nodes)) room) cause.ListLength  -- 7
+    (check (bitsFit (p .inputs) inputs) cause.InputBytes  -- 14
+    (check (ltb output (length (p .outputs))) cause.OutputNumber  -- 15
     (result (record { bit = outputValue p inputs output; values = nodeValues (p .nodes) inputs }))))
 
 -- evaluating an output of a program file
@@ -38,6 +38,7 @@ pub record Evaluating : Type 0 where
   pub answer : Answer ℕ
   pub values : List ℕ
 
+-- the service evaluate: its answer and the lent value list at exit, whatever the list held
 unfoldable pub evaluateOf : List ℕ → List ℕ → List ℕ → ℕ → Evaluating
 evaluateOf file list inputs output =
     record {

@@ -6,27 +6,34 @@ use mathlib.Core.Bool.{Bool, true, false, cond, _&&_, false≢true}
 use mathlib.Core.List.{List}
 use lib.Dec.{eqb, leb, ltb}
 use borrow.Author.Tests.{lt-leb, ltb-true, eqb-false}
+use Rattle.wire.specs.Answers.{result, refuse}
+use Rattle.wire.specs.declared.refusals.Refusal.the-variants as cause
+use Rattle.wire.proofs.AnswerLaws.{checked}
 use Rattle.wire.proofs.CheckLaws.{by-test, both-first, both-second}
 use Rattle.program.specs.declared.node.Node.{Node}
 use Rattle.program.specs.declared.node.Node.the-variants.{Zero, One, Input, Not, Xor, And}
+use Rattle.program.specs.declared.node.NodeRead.{NodeRead}
 use Rattle.program.specs.declared.node.NodeRead.the-variants.{Good, Bad}
-use Rattle.program.specs.Nodes.{nodeOf, operandsFit, kindAt, zeroAt, aAt, bAt, nodeAt, nodeFits, readNode}
+use Rattle.program.specs.Nodes.{nodeOf, operandsFit, kindAt, zeroAt, aAt, bAt, nodeAt, nodeFits, readNode, nodeRead}
 use Rattle.program.specs.Trees.{NodeOk}
 
-module _ (n : ℕ) (body : List ℕ) (i : ℕ) where
+module _ (n : ℕ) (body : List ℕ) (i : ℕ) {r : NodeRead} (e : nodeRead r ≡ readNode n body i) where
   -- a node that was read is in order
-  pub read-good : {x : Node} → readNode n body i ≡ Good x → nodeFits n body i ≡ true
+  pub read-good : {x : Node} → r ≡ Good x → nodeFits n body i ≡ true
   unfolding readNode
-  read-good {x} e = by-test (nodeFits n body i) (λ t. t) (λ t. let z : Bad i ≡ Good x = simp t at e in let o : _≡_ {A = ℕ} 0 1 = cc in absurd (omega arith))
+  read-good {x} g = checked x (nodeFits n body i) (cause.Node i) (result (nodeAt body i)) (sym e ∙ ap nodeRead g)
 
   -- a node that was refused is not, and its index is reported
-  pub read-bad : {k : ℕ} → readNode n body i ≡ Bad k → nodeFits n body i ≡ false
+  pub read-bad : {k : ℕ} → r ≡ Bad k → nodeFits n body i ≡ false
   unfolding readNode
-  read-bad {k} e = by-test (nodeFits n body i) (λ t. let z : Good (nodeAt body i) ≡ Bad k = simp t at e in let o : _≡_ {A = ℕ} 0 1 = cc in absurd (omega arith)) (λ t. t)
+  read-bad {k} g =
+      by-test (nodeFits n body i)
+      (λ t. let z : nodeRead r ≡ result (nodeAt body i) = simp t at e in let o : _≡_ {A = ℕ} 0 1 = cc (ap nodeRead g) in absurd (omega arith))
+      (λ t. t)
 
-  pub read-index : {k : ℕ} → readNode n body i ≡ Bad k → k ≡ i
+  pub read-index : {k : ℕ} → r ≡ Bad k → k ≡ i
   unfolding readNode
-  read-index {k} e = let z : Bad i ≡ Bad k = simp (read-bad e) at e in cc
+  read-index {k} g = let z : nodeRead r ≡ refuse (cause.Node i) = simp (read-bad g) at e in cc (ap nodeRead g)
 
 -- the operands of a node in order are lower, and its input is below n
 module _ (n i kind a b : ℕ) where

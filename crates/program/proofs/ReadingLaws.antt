@@ -1,22 +1,23 @@
 -- Laws of reading a program file: what each test that held says. Assumes nothing.
 use Prim.Native.Nat.{ℕ, _+_, _*_, _/_, _%_, _<_, _≤_}
 use native.Mathlib.Omega.{arith}
-use mathlib.Core.Path.{_≡_, refl, sym, ap, _∙_}
+use mathlib.Core.Path.{_≡_, ap, ap₂, _∙_}
 use mathlib.Core.Bool.{Bool, true, false, _&&_}
 use mathlib.Core.List.{List, [], _∷_}
 use lib.ListN.{length}
 use lib.Dec.{eqb, leb}
 use borrow.Author.Tests.{eqb-true, leb-true}
+use Rattle.wire.specs.Checks.{lowest}
 use Rattle.wire.specs.Contents.{tableLength, tableFits, entriesFit, entryStart, entryLength, bodyOf}
 use Rattle.wire.proofs.CheckLaws.{both-first, both-second}
 use Rattle.wire.proofs.ContentsLaws.{table-whole, body-length, entry-first, entries-end}
 use Rattle.wire.proofs.ListLaws.{tabulate-length}
 use Rattle.wire.specs.Answers.{Answer, result}
 use Rattle.program.specs.declared.reader.Head.{Head}
-use Rattle.program.specs.Nodes.{nodeAt}
+use Rattle.program.specs.Nodes.{nodeAt, nodeFits}
 use Rattle.program.specs.Programs.{headOf}
 use Rattle.program.specs.Layout.{Laid, Sized}
-use Rattle.program.specs.Reading.{tags, inputsOf, outputsOf, nodesOf, lengthsFit, outputAt, programOf}
+use Rattle.program.specs.Reading.{tags, inputsOf, outputsOf, nodesOf, lengthsFit, outputAt, outputFits, programOf}
 
 module _ (f : List ℕ) where
   -- causes 1 and 2 passed
@@ -74,6 +75,19 @@ module _ (f : List ℕ) where
 
     pub outputs-counted : length (bodyOf f 2) / 2 ≡ outputsOf f
     outputs-counted = omega (arith, outputs-long (s .laid), s .twos)
+
+    -- the lowest node and the lowest output that the readers of the bodies find are the file's
+    pub nodes-lowest : {n : ℕ} {nodes : List ℕ} → n ≡ inputsOf f → nodes ≡ bodyOf f 1
+        → lowest (nodeFits n nodes) (length nodes / 6) ≡ lowest (nodeFits (inputsOf f) (bodyOf f 1)) (nodesOf f)
+    nodes-lowest e g =
+        ap₂ (λ (m : ℕ) (b : List ℕ). lowest (nodeFits m b) (length b / 6)) e g
+        ∙ ap (lowest (nodeFits (inputsOf f) (bodyOf f 1))) nodes-counted
+
+    pub outputs-lowest : {k : ℕ} {outputs : List ℕ} → k ≡ nodesOf f → outputs ≡ bodyOf f 2
+        → lowest (outputFits k outputs) (length outputs / 2) ≡ lowest (outputFits (nodesOf f) (bodyOf f 2)) (outputsOf f)
+    outputs-lowest e g =
+        ap₂ (λ (m : ℕ) (b : List ℕ). lowest (outputFits m b) (length b / 2)) e g
+        ∙ ap (lowest (outputFits (nodesOf f) (bodyOf f 2))) outputs-counted
 
 -- the head that the reader answers is the program's
 pub head-of : (f : List ℕ) {n m k : ℕ} → n ≡ inputsOf f → m ≡ outputsOf f → k ≡ nodesOf f → _≡_ {A = Answer Head} (result (record { inputs = n; outputs = m; nodes = k })) (result (headOf (programOf f)))

@@ -4,7 +4,9 @@ use mathlib.Core.Bool.{Bool, false, cond, _&&_}
 use mathlib.Core.List.{List}
 use lib.ListN.{getD}
 use lib.Dec.{eqb, leb, ltb}
+use Rattle.wire.specs.Answers.{Answer, result, refuse, check}
 use Rattle.wire.specs.Bytes.{at16}
+use Rattle.wire.specs.declared.refusals.Refusal.the-variants as cause
 use Rattle.program.specs.declared.node.Node.{Node}
 use Rattle.program.specs.declared.node.Node.the-variants.{Zero, One, Input, Not, Xor, And}
 use Rattle.program.specs.declared.node.NodeRead.{NodeRead}
@@ -27,16 +29,19 @@ operandsFit n i kind a b =
     (cond (eqb kind 3) (ltb a i && eqb b 0)
     (cond (leb kind 5) (ltb a i && ltb b i) false)))
 
--- the fields of node i of a node body: its kind, its zero byte, a and b
+-- the kind of node i of a node body
 abbrev pub kindAt : List ℕ → ℕ → ℕ
 kindAt body i = getD body (6 * i) 0
 
+-- the byte of node i that has to be zero
 abbrev pub zeroAt : List ℕ → ℕ → ℕ
 zeroAt body i = getD body (6 * i + 1) 0
 
+-- the field a of node i
 abbrev pub aAt : List ℕ → ℕ → ℕ
 aAt body i = at16 body (6 * i + 2)
 
+-- the field b of node i
 abbrev pub bAt : List ℕ → ℕ → ℕ
 bAt body i = at16 body (6 * i + 4)
 
@@ -48,6 +53,11 @@ nodeAt body i = nodeOf (kindAt body i) (aAt body i) (bAt body i)
 unfoldable pub nodeFits : ℕ → List ℕ → ℕ → Bool
 nodeFits n body i = eqb (zeroAt body i) 0 && operandsFit n i (kindAt body i) (aAt body i) (bAt body i)
 
--- what reading node i finds: the node, or that the node with this index is not in order
-unfoldable pub readNode : ℕ → List ℕ → ℕ → NodeRead
-readNode n body i = cond (nodeFits n body i) (Good (nodeAt body i)) (Bad i)
+-- what reading node i gives: the node, or cause 5 with its index
+unfoldable pub readNode : ℕ → List ℕ → ℕ → Answer Node
+readNode n body i = check (nodeFits n body i) (cause.Node i) (result (nodeAt body i))
+
+-- the node reader's answer in 01's terms: the node, or a number and a place
+abbrev pub nodeRead : NodeRead → Answer Node
+nodeRead (Good node) = result node
+nodeRead (Bad i) = refuse (cause.Node i)

@@ -9,6 +9,7 @@ use Rattle.program.specs.declared.reader.Head.{Head}
 use Rattle.program.specs.Exprs.{Expr, ZERO, value}
 use Rattle.program.specs.Trees.{trees}
 
+-- how many inputs there are, the nodes in order, and for each output the index of its node
 pub record Program : Type 0 where
   pub inputs : ℕ
   pub nodes : List Node

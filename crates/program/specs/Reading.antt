@@ -19,10 +19,11 @@ use Rattle.program.specs.Programs.{Program}
 abbrev pub tags : List ℕ
 tags = 1 ∷ 2 ∷ 3 ∷ []
 
--- n and m, as the first body has them
+-- the number of inputs, n, as read
 abbrev pub inputsOf : List ℕ → ℕ
 inputsOf f = at16 (bodyOf f 0) 0
 
+-- the number of outputs, m, as read
 abbrev pub outputsOf : List ℕ → ℕ
 outputsOf f = at16 (bodyOf f 0) 2
 
@@ -61,17 +62,17 @@ programOf f =
 -- what reading the nodes and the outputs gives, once the lengths and ranges are right
 unfoldable pub readBodies : List ℕ → Answer Program
 readBodies f =
-    checkEach (nodeFits (inputsOf f) (bodyOf f 1)) (nodesOf f) cause.Node
-    (checkEach (outputFits (nodesOf f) (bodyOf f 2)) (outputsOf f) cause.Output
+    checkEach (nodeFits (inputsOf f) (bodyOf f 1)) (nodesOf f) cause.Node  -- 5
+    (checkEach (outputFits (nodesOf f) (bodyOf f 2)) (outputsOf f) cause.Output  -- 6
     (result (programOf f)))
 
 -- what reading a program file gives
 unfoldable pub readProgram : List ℕ → Answer Program
 readProgram f =
-    check (tableFits 3 f) cause.Table
-    (check (entriesFit tags f) cause.Contents
-    (check (lengthsFit f) cause.BodyLength
-    (check (rangesFit f) cause.Range
+    check (tableFits 3 f) cause.Table  -- 1
+    (check (entriesFit tags f) cause.Contents  -- 2
+    (check (lengthsFit f) cause.BodyLength  -- 3
+    (check (rangesFit f) cause.Range  -- 4
     (readBodies f))))
 
 -- the reader's answer in 01's terms: inputs, outputs and nodes, or a number and a place

@@ -4,7 +4,7 @@ ghost use mathlib.Core.Path.{_≡_};
 ghost use mathlib.Core.Bool.{_&&_};
 ghost use Prim.Native.Nat.{_+_, _*_, _≤_};
 ghost use lib.ListN.{length};
-ghost use Rattle.program.specs.Nodes.{nodeOf, operandsFit, nodeAt, nodeFits, readNode};
+ghost use Rattle.program.specs.Nodes.{nodeOf, operandsFit, nodeAt, nodeFits, readNode, nodeRead};
 
 // A node with the number of its input or the indices of its operands.
 pub enum Node {
@@ -93,7 +93,7 @@ fn node_fits(body: &[u8], i: usize, inputs: usize) -> bool
 // Node i of a node body, or its index where it is not in order.
 pub fn read_node(body: &[u8], i: usize, inputs: usize) -> NodeRead
     requires { ⌜ 6 * (i + 1) ≤ length (now body) ⌝ }
-    ensures { λ r. ⌜ r ≡ readNode inputs (now (body .entry)) i ⌝ }
+    ensures { λ r. ⌜ nodeRead r ≡ readNode inputs (now (body .entry)) i ⌝ }
 {
     if node_fits(body, i, inputs) {
         return NodeRead::Good(node_at(body, i));

@@ -5,7 +5,7 @@ use Rattle.wire.specs.Checks.{allBelow, lowest}
 use Rattle.wire.specs.declared.refusals.Refusal.{Refusal}
 use Rattle.wire.specs.declared.refusals.Refusal.the-variants as cause
 
--- the number of each cause in 01's table
+-- the number of each cause, as 01's table has it
 abbrev pub numberOf : Refusal → ℕ
 numberOf cause.Table = 1
 numberOf cause.Contents = 2
@@ -59,11 +59,12 @@ check false why next = refuse why
 abbrev pub checkEach : {A : Type 0} → (ℕ → Bool) → ℕ → (ℕ → Refusal) → Answer A → Answer A
 checkEach test k why next = check (allBelow test k) (why (lowest test k)) next
 
--- the same answer with other values, or what a result leads to
+-- the same answer with its values read by f
 abbrev pub mapAnswer : {A B : Type 0} → (A → B) → Answer A → Answer B
 mapAnswer f (result a) = result (f a)
 mapAnswer f (refused n p) = refused n p
 
+-- what a result leads to; a refusal is passed on with its number and place
 abbrev pub andThen : {A B : Type 0} → Answer A → (A → Answer B) → Answer B
 andThen (result a) f = f a
 andThen (refused n p) f = refused n p

@@ -11,13 +11,15 @@ use Rattle.wire.specs.Bytes.{at16, at32, bytes16, bytes32}
 abbrev pub tableLength : ℕ → ℕ
 tableLength k = 2 + 10 * k
 
--- entry i of a file: its tag, where its body starts, and how long its body is
+-- the tag of entry i
 abbrev pub entryTag : List ℕ → ℕ → ℕ
 entryTag f i = at16 f (2 + 10 * i)
 
+-- where the body of entry i starts
 abbrev pub entryStart : List ℕ → ℕ → ℕ
 entryStart f i = at32 f (2 + 10 * i + 2)
 
+-- how long the body of entry i is
 abbrev pub entryLength : List ℕ → ℕ → ℕ
 entryLength f i = at32 f (2 + 10 * i + 6)
 

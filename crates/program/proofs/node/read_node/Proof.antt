@@ -1,5 +1,5 @@
+use Rattle.wire.specs.Answers.{result}
 use mathlib.Core.Path.{ap, sym, _∙_}
-use Rattle.program.specs.declared.node.NodeRead.the-variants.{Good}
 use Rattle.program.specs.Nodes.{readNode}
 use borrow.Author.Needs.{needs}
 use Rattle.program.proofs.node.read_node.Statement.{statement}
@@ -17,7 +17,7 @@ node-at-requires c κs = search needs
 
 returns : tie.Need-returns
 unfolding readNode
-returns c = simp (sym (c .before .before .node-fits .ensures) ∙ c .before .if1 .taken) (ap Good (c .node-at .ensures))
+returns c = simp (sym (c .before .before .node-fits .ensures) ∙ c .before .if1 .taken) (ap result (c .node-at .ensures))
 
 returns-2 : tie.Need-returns-2
 unfolding readNode

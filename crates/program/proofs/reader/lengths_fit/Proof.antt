@@ -1,3 +1,5 @@
+use mathlib.Core.List.{List}
+use Rattle.wire.specs.Bytes.{at16}
 use native.Mathlib.Omega.{arith}
 use mathlib.Core.Path.{_≡_, sym, ap, _∙_}
 use lib.ListN.{length}
@@ -56,7 +58,7 @@ mul-result c = search needs
 
 returns-5 : tie.Need-returns-5
 unfolding lengthsFit
-returns-5 c = let l = c .before .before .before .before .before .before .entry-length2 .ensures in let f = now (c .before .before .before .before .before .before .before .before .before .before .args .file) in let m : c .before .get16 .result ≡ outputsOf f = cc in simp (eq-eqb _ _ (sym (c .before .before .before .before .before .before .before .before .entry-length .ensures) ∙ c .before .before .before .before .before .before .before .if1 .left), eq-eqb _ _ (ap (λ (x : ℕ). x % 6) (sym l) ∙ c .before .before .before .before .before .if2 .left), le-leb 1 (nodesOf f) (omega (arith, l, c .before .before .before .before .if3 .left)), le-leb (nodesOf f) 4096 (omega (arith, l, c .before .before .before .if4 .left))) (ap₂ (λ (x y : ℕ). eqb x (2 * y)) (c .entry-length3 .ensures) m)
+returns-5 c = let l = c .before .before .before .before .before .before .entry-length2 .ensures in let f = now (c .before .before .before .before .before .before .before .before .before .before .args .file) in simp (eq-eqb _ _ (sym (c .before .before .before .before .before .before .before .before .entry-length .ensures) ∙ c .before .before .before .before .before .before .before .if1 .left), eq-eqb _ _ (ap (λ (x : ℕ). x % 6) (sym l) ∙ c .before .before .before .before .before .if2 .left), le-leb 1 (nodesOf f) (omega (arith, l, c .before .before .before .before .if3 .left)), le-leb (nodesOf f) 4096 (omega (arith, l, c .before .before .before .if4 .left))) (ap₂ (λ (x y : ℕ). eqb x (2 * y)) (c .entry-length3 .ensures) (c .before .get16 .ensures ∙ ap (λ (l : List ℕ). at16 l 2) (c .before .before .body .ensures)))
 
 pub lengths-fit-spec : {M : Type 1} → statement M
 lengths-fit-spec =

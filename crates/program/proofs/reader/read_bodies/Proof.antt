@@ -1,3 +1,6 @@
+use mathlib.Core.List.{List}
+use Rattle.wire.specs.Bytes.{at16}
+use Rattle.program.proofs.ReadingLaws.{nodes-lowest, outputs-lowest}
 use Rattle.program.proofs.ReadingLaws.{head-of}
 use native.Mathlib.Omega.{arith}
 use mathlib.Core.Path.{_≡_, sym, ap, _∙_}
@@ -10,7 +13,7 @@ use Rattle.wire.specs.Checks.{lowest}
 use Rattle.wire.specs.Contents.{bodyOf}
 use Rattle.program.specs.Nodes.{nodeFits}
 use Rattle.program.specs.Reading.{inputsOf, outputsOf, nodesOf, outputFits, programOf, readBodies}
-use Rattle.program.proofs.ReadingLaws.{head-long, nodes-counted, outputs-counted}
+use Rattle.program.proofs.ReadingLaws.{head-long}
 use borrow.Author.Needs.{needs}
 use Rattle.program.proofs.reader.read_bodies.Statement.{statement}
 use Rattle.program.proofs.reader.read_bodies.Tie as tie
@@ -53,7 +56,7 @@ read-nodes-requires c κs = search needs
 
 returns : tie.Need-returns
 unfolding readBodies
-returns c = let f = now (c .before .before .before .before .before .before .before .before .args .file) in let k = nodes-counted f (c .before .before .before .before .before .before .before .before .pre) in let e : c .before .read-nodes .result ≡ lowest (nodeFits (inputsOf f) (bodyOf f 1)) (nodesOf f) = cc in let m : c .before .before .before .entry-length .result / 6 ≡ nodesOf f = cc in simp (ne-eqb _ _ (λ z. c .if1 .taken (e ∙ z ∙ sym m))) (ap (λ (x : ℕ). refused 5 x) e)
+returns c = let f = now (c .before .before .before .before .before .before .before .before .args .file) in let n : c .before .before .before .before .before .get16 .result ≡ inputsOf f = c .before .before .before .before .before .get16 .ensures ∙ ap (λ (l : List ℕ). at16 l 0) (c .before .before .before .before .before .before .body .ensures) in let k : c .before .before .before .entry-length .result / 6 ≡ nodesOf f = ap (λ (l : ℕ). l / 6) (c .before .before .before .entry-length .ensures) in let e : c .before .read-nodes .result ≡ lowest (nodeFits (inputsOf f) (bodyOf f 1)) (nodesOf f) = c .before .read-nodes .ensures ∙ nodes-lowest f (c .before .before .before .before .before .before .before .before .pre) n (c .before .before .node-body .ensures) in simp (ne-eqb _ _ (λ z. c .if1 .taken (e ∙ z ∙ sym k))) (ap (λ (x : ℕ). refused 5 x) e)
 
 output-body-requires : tie.Need-output-body-requires
 output-body-requires c κs = search needs
@@ -63,11 +66,11 @@ read-outputs-requires c κs = search needs
 
 returns-2 : tie.Need-returns-2
 unfolding readBodies
-returns-2 c = let f = now (c .before .before .before .before .before .before .before .before .before .before .before .args .file) in let k = nodes-counted f (c .before .before .before .before .before .before .before .before .before .before .before .pre) in let k2 = outputs-counted f (c .before .before .before .before .before .before .before .before .before .before .before .pre) in let e : c .before .before .before .before .read-nodes .result ≡ lowest (nodeFits (inputsOf f) (bodyOf f 1)) (nodesOf f) = cc in let m : c .before .before .before .before .before .before .entry-length .result / 6 ≡ nodesOf f = cc in let o : c .before .before .before .before .before .before .before .get162 .result ≡ outputsOf f = cc in let g : c .before .read-outputs .result ≡ lowest (outputFits (nodesOf f) (bodyOf f 2)) (outputsOf f) = cc in simp (eq-eqb _ _ (sym e ∙ c .before .before .before .if1 .left ∙ m), ne-eqb _ _ (λ z. c .if2 .taken (g ∙ z ∙ sym o))) (ap (λ (x : ℕ). refused 6 x) g)
+returns-2 c = let f = now (c .before .before .before .before .before .before .before .before .before .before .before .args .file) in let n : c .before .before .before .before .before .before .before .before .get16 .result ≡ inputsOf f = c .before .before .before .before .before .before .before .before .get16 .ensures ∙ ap (λ (l : List ℕ). at16 l 0) (c .before .before .before .before .before .before .before .before .before .body .ensures) in let k : c .before .before .before .before .before .before .entry-length .result / 6 ≡ nodesOf f = ap (λ (l : ℕ). l / 6) (c .before .before .before .before .before .before .entry-length .ensures) in let e : c .before .before .before .before .read-nodes .result ≡ lowest (nodeFits (inputsOf f) (bodyOf f 1)) (nodesOf f) = c .before .before .before .before .read-nodes .ensures ∙ nodes-lowest f (c .before .before .before .before .before .before .before .before .before .before .before .pre) n (c .before .before .before .before .before .node-body .ensures) in let m : c .before .before .before .before .before .before .before .get162 .result ≡ outputsOf f = c .before .before .before .before .before .before .before .get162 .ensures ∙ ap (λ (l : List ℕ). at16 l 2) (c .before .before .before .before .before .before .before .before .before .body .ensures) in let g : c .before .read-outputs .result ≡ lowest (outputFits (nodesOf f) (bodyOf f 2)) (outputsOf f) = c .before .read-outputs .ensures ∙ outputs-lowest f (c .before .before .before .before .before .before .before .before .before .before .before .pre) k (c .before .before .output-body .ensures) in simp (eq-eqb _ _ (sym e ∙ c .before .before .before .if1 .left ∙ k), ne-eqb _ _ (λ z. c .if2 .taken (g ∙ z ∙ sym m))) (ap (λ (x : ℕ). refused 6 x) g)
 
 returns-3 : tie.Need-returns-3
 unfolding readBodies programOf
-returns-3 c = let f = now (c .before .before .before .before .before .before .before .before .before .before .before .args .file) in let k = nodes-counted f (c .before .before .before .before .before .before .before .before .before .before .before .pre) in let k2 = outputs-counted f (c .before .before .before .before .before .before .before .before .before .before .before .pre) in let e : c .before .before .before .before .read-nodes .result ≡ lowest (nodeFits (inputsOf f) (bodyOf f 1)) (nodesOf f) = cc in let m : c .before .before .before .before .before .before .entry-length .result / 6 ≡ nodesOf f = cc in let o : c .before .before .before .before .before .before .before .get162 .result ≡ outputsOf f = cc in let g : c .before .read-outputs .result ≡ lowest (outputFits (nodesOf f) (bodyOf f 2)) (outputsOf f) = cc in let n : c .before .before .before .before .before .before .before .before .get16 .result ≡ inputsOf f = cc in simp (eq-eqb _ _ (sym e ∙ c .before .before .before .if1 .left ∙ m), eq-eqb _ _ (sym g ∙ c .if2 .left ∙ o)) (head-of f n o m)
+returns-3 c = let f = now (c .before .before .before .before .before .before .before .before .before .before .before .args .file) in let n : c .before .before .before .before .before .before .before .before .get16 .result ≡ inputsOf f = c .before .before .before .before .before .before .before .before .get16 .ensures ∙ ap (λ (l : List ℕ). at16 l 0) (c .before .before .before .before .before .before .before .before .before .body .ensures) in let k : c .before .before .before .before .before .before .entry-length .result / 6 ≡ nodesOf f = ap (λ (l : ℕ). l / 6) (c .before .before .before .before .before .before .entry-length .ensures) in let e : c .before .before .before .before .read-nodes .result ≡ lowest (nodeFits (inputsOf f) (bodyOf f 1)) (nodesOf f) = c .before .before .before .before .read-nodes .ensures ∙ nodes-lowest f (c .before .before .before .before .before .before .before .before .before .before .before .pre) n (c .before .before .before .before .before .node-body .ensures) in let m : c .before .before .before .before .before .before .before .get162 .result ≡ outputsOf f = c .before .before .before .before .before .before .before .get162 .ensures ∙ ap (λ (l : List ℕ). at16 l 2) (c .before .before .before .before .before .before .before .before .before .body .ensures) in let g : c .before .read-outputs .result ≡ lowest (outputFits (nodesOf f) (bodyOf f 2)) (outputsOf f) = c .before .read-outputs .ensures ∙ outputs-lowest f (c .before .before .before .before .before .before .before .before .before .before .before .pre) k (c .before .before .output-body .ensures) in simp (eq-eqb _ _ (sym e ∙ c .before .before .before .if1 .left ∙ k), eq-eqb _ _ (sym g ∙ c .if2 .left ∙ m)) (head-of f n m k)
 
 pub read-bodies-spec : {M : Type 1} → statement M
 read-bodies-spec =

@@ -28,7 +28,7 @@ enum-known-node : tie.Need-enum-known-node Inv-loop μ-loop
 enum-known-node c = search needs
 
 returns : tie.Need-returns Inv-loop μ-loop
-returns c = let e = sym (c .before .before .before .read-node .ensures) ∙ c .before .node .given .1 in read-index _ _ _ e ∙ sym (passed-fails _ (c .before .before .before .before .before .loop .inv) (c .before .before .before .before .loop-test .taken) (read-bad _ _ _ e))
+returns c = let e = c .before .before .before .read-node .ensures in let g = c .before .node .given .1 in read-index _ _ _ e g ∙ sym (passed-fails _ (c .before .before .before .before .before .loop .inv) (c .before .before .before .before .loop-test .taken) (read-bad _ _ _ e g))
 
 enum-told : tie.Need-enum-told Inv-loop μ-loop
 enum-told c = search needs
@@ -40,7 +40,7 @@ loop-less : tie.Need-loop-less Inv-loop μ-loop
 loop-less c = search needs
 
 loop-again : tie.Need-loop-again Inv-loop μ-loop
-loop-again c = passed-next _ (c .before .before .before .before .loop .inv) (c .before .before .before .loop-test .taken) (read-good _ _ _ (sym (c .before .before .read-node .ensures) ∙ c .enum-told .given .1))
+loop-again c = passed-next _ (c .before .before .before .before .loop .inv) (c .before .before .before .loop-test .taken) (read-good _ _ _ (c .before .before .read-node .ensures) (c .enum-told .given .1))
 
 returns-2 : tie.Need-returns-2 Inv-loop μ-loop
 returns-2 c = omega (arith, passed-all _ (c .before .loop .inv) (c .loop-test .left), c .before .loop .inv .within)

@@ -1,0 +1,74 @@
+/* Links liboracle.a as a loader would: reads a small program file, evaluates its output on every
+ * input, and shows two refusals. It exits with 1 where an answer is not the one that it expects. */
+#include <stdbool.h>
+#include <stdio.h>
+#include <string.h>
+
+#include "oracle.h"
+
+/* Two inputs, one output: INPUT 0, INPUT 1, AND 0 1; the output is node 2. */
+static const uint8_t and_program[] = {
+    3, 0,                                           /* three entries: tag, start, length */
+    1, 0, 32, 0, 0, 0, 4,  0, 0, 0,
+    2, 0, 36, 0, 0, 0, 18, 0, 0, 0,
+    3, 0, 54, 0, 0, 0, 2,  0, 0, 0,
+    2, 0, 1, 0,                                     /* inputs, outputs */
+    2, 0, 0, 0, 0, 0,                               /* INPUT 0 */
+    2, 0, 1, 0, 0, 0,                               /* INPUT 1 */
+    5, 0, 0, 0, 1, 0,                               /* AND 0 1 */
+    2, 0,                                           /* output 0 is node 2 */
+};
+
+static bool all_as_expected = true;
+
+static void show(const char *what, oracle_answer answer, uint64_t number, uint64_t value)
+{
+    if (answer.number == 0)
+        printf("%s: %llu\n", what, (unsigned long long)answer.value);
+    else
+        printf("%s: refused %llu %llu\n", what, (unsigned long long)answer.number,
+               (unsigned long long)answer.value);
+    if (answer.number != number || answer.value != value)
+        all_as_expected = false;
+}
+
+static void holds(bool test, const char *what)
+{
+    if (!test) {
+        printf("not as expected: %s\n", what);
+        all_as_expected = false;
+    }
+}
+
+int main(void)
+{
+    const size_t length = sizeof and_program;
+
+    show("nodes", oracle_read_program(and_program, length), 0, 3);
+
+    for (uint8_t a = 0; a < 2; a++) {
+        for (uint8_t b = 0; b < 2; b++) {
+            const uint8_t inputs[2] = {a, b};
+            const uint8_t wanted[4] = {a, b, a && b, 9};
+            uint8_t values[4] = {9, 9, 9, 9};
+            char what[16];
+            snprintf(what, sizeof what, "AND %d %d", a, b);
+            show(what, oracle_evaluate(and_program, length, values, 4, inputs, 2, 0), 0, a && b);
+            holds(memcmp(values, wanted, 4) == 0, "the nodes' values, and the entry behind them");
+        }
+    }
+
+    const uint8_t inputs[2] = {1, 1};
+    uint8_t values[3] = {9, 9, 9};
+    const uint8_t kept[3] = {9, 9, 9};
+    show("empty file", oracle_read_program(NULL, 0), 1, 0);
+    show("no output 1", oracle_evaluate(and_program, length, values, 3, inputs, 2, 1), 15, 0);
+    holds(memcmp(values, kept, 3) == 0, "the value list after a refusal");
+
+    uint8_t damaged[sizeof and_program];
+    memcpy(damaged, and_program, length);
+    damaged[50] = 2; /* the first operand of node 2 is node 2 itself */
+    show("AND of itself", oracle_read_program(damaged, length), 5, 2);
+
+    return all_as_expected ? 0 : 1;
+}

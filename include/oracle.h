@@ -1,0 +1,54 @@
+/* The services of liboracle.a, for C and C++ and whatever can call C.
+ *
+ * Every function takes any bytes, any lengths and any numbers, ends, and touches nothing but the
+ * areas lent to it. An area is a pointer and its length; where the length is 0 the pointer may be
+ * null. Areas of one call must not overlap. Nothing is kept after a call: no heap, no state, and a
+ * few hundred bytes of stack.
+ */
+#ifndef ORACLE_H
+#define ORACLE_H
+
+#include <stddef.h>
+#include <stdint.h>
+
+#ifdef __cplusplus
+extern "C" {
+#endif
+
+/* What a service answers.
+ *
+ * number  0 for a result, else the number of the cause for which the service refused (the table
+ *         of causes is in README.md);
+ * value   of a result, what the function says below; of a refusal, its place, 0 where the cause
+ *         has none.
+ */
+typedef struct {
+    uint64_t number;
+    uint64_t value;
+} oracle_answer;
+
+/* Reads and checks a program file.
+ *
+ * Result: value is the number of nodes. Refusals: 1 to 6. The file is only read.
+ */
+oracle_answer oracle_read_program(const uint8_t *file, size_t file_length);
+
+/* Evaluates one output of a program file on given input bits.
+ *
+ * inputs  one byte, 0 or 1, for each input; only read.
+ * values  a byte for each node at least. After a result, entry i is the value of node i, 0 or 1,
+ *         and entries behind the last node are as they were. After a refusal all of it is.
+ * output  the output's number, from 0.
+ *
+ * Result: value is the output's value, 0 or 1. Refusals: 1 to 7, 14, 15.
+ */
+oracle_answer oracle_evaluate(const uint8_t *file, size_t file_length,
+                              uint8_t *values, size_t values_length,
+                              const uint8_t *inputs, size_t inputs_length,
+                              uint64_t output);
+
+#ifdef __cplusplus
+}
+#endif
+
+#endif
