@@ -66,72 +66,76 @@ module _ (f list x : List ℕ) (k : ℕ) where
     unfolding evaluateProgram
     list-short s = refuses 7 0 (program-is ∙ simp (lt-leb (length (programOf f .nodes)) (length list) (omega (arith, head-nodes))))
 
-    module _ (room : h .nodes ≤ length list) where
-      fits : leb (length (programOf f .nodes)) (length list) ≡ true
-      fits = le-leb (length (programOf f .nodes)) (length list) (omega (arith, head-nodes))
+    -- every check has passed
+    pub record Ready : Type 0 where
+      pub room : h .nodes ≤ length list
+      pub bits : bitsFit (h .inputs) x ≡ true
+      pub output : k < h .outputs
 
-      pub inputs-bad : bitsFit (h .inputs) x ≡ false → Outcome (refuse cause.InputBytes) list
+    fits : h .nodes ≤ length list → leb (length (programOf f .nodes)) (length list) ≡ true
+    fits room = le-leb (length (programOf f .nodes)) (length list) (omega (arith, head-nodes))
+
+    same-test : bitsFit (programOf f .inputs) x ≡ bitsFit (h .inputs) x
+    same-test = ap (λ (n : ℕ). bitsFit n x) (sym head-inputs)
+
+    pub inputs-bad : h .nodes ≤ length list → bitsFit (h .inputs) x ≡ false → Outcome (refuse cause.InputBytes) list
+    unfolding evaluateProgram
+    inputs-bad room e = refuses 14 0 (program-is ∙ simp (fits room, same-test ∙ e))
+
+    pub output-bad : h .nodes ≤ length list → bitsFit (h .inputs) x ≡ true → h .outputs ≤ k → Outcome (refuse cause.OutputNumber) list
+    unfolding evaluateProgram
+    output-bad room e s = refuses 15 0 (program-is ∙ simp (fits room, same-test ∙ e, le-ltb k (length (programOf f .outputs)) (omega (arith, head-outputs))))
+
+    same-nodes : nodesIn (bodyOf f 1) ≡ programOf f .nodes
+    unfolding programOf
+    same-nodes = ap (tabulate (nodeAt (bodyOf f 1))) (nodes-counted f (r .accepts .sized))
+
+    module _ (q : Ready) where
+      -- the nodes can be evaluated
+      pub fillable : Fillable (bodyOf f 1) x (length list)
+      fillable =
+          let n : length x ≡ inputsOf f = bits-count (h .inputs) x (q .bits) ∙ head-inputs ∙ inputs-is f (r .accepts) in
+          record {
+            ok = rw (n, same-nodes) (table-ok f (r .accepts));
+            bits = bits-are (h .inputs) x (q .bits);
+            fits = omega (arith, nodes-counted f (r .accepts .sized), head-nodes, nodes-length f (r .accepts), q .room);
+          }
+
+      within : k < outputsOf f
+      within = omega (arith, head-outputs, outputs-length f (r .accepts), q .output)
+
+      pub output-few : k < 64
+      output-few = omega (arith, within, r .accepts .outputs-most)
+
+      -- the output's entry is there, and the node that it names has a value
+      pub output-there : 2 * k + 2 ≤ length (bodyOf f 2)
+      output-there = omega (arith, within, outputs-long f (r .accepts .sized .laid), r .accepts .sized .twos)
+
+      pub node-there : outputAt (bodyOf f 2) k < length list
+      node-there = omega (arith, r .accepts .outputs-fit k within, head-nodes, nodes-length f (r .accepts), q .room)
+
+      all-counted : length (nodeValues (programOf f .nodes) x) ≡ nodesOf f
+      all-counted = values-length (programOf f .nodes) x ∙ nodes-length f (r .accepts)
+
+      -- the value of the output is the value of the node that it names
+      output-value : getD (nodeValues (programOf f .nodes) x) (outputAt (bodyOf f 2) k) 0 ≡ outputValue (programOf f) x k
+      unfolding outputValue outputTree
+      output-value =
+          values-at (programOf f .nodes) x (outputAt (bodyOf f 2) k)
+          ∙ ap (λ (i : ℕ). value (getD (trees (programOf f .nodes)) i ZERO) x) (sym (output-is f (r .accepts) k within))
+
+      found : evaluateFile f (length list) x k ≡ result (record { bit = outputValue (programOf f) x k; values = nodeValues (programOf f .nodes) x })
       unfolding evaluateProgram
-      inputs-bad e = refuses 14 0 (program-is ∙ simp (fits, ap (λ (n : ℕ). bitsFit n x) (sym head-inputs) ∙ e))
+      found = program-is ∙ simp (fits (q .room), same-test ∙ q .bits, lt-ltb k (length (programOf f .outputs)) (omega (arith, head-outputs, q .output)))
 
-      module _ (e : bitsFit (h .inputs) x ≡ true) where
-        right : bitsFit (programOf f .inputs) x ≡ true
-        right = ap (λ (n : ℕ). bitsFit n x) (sym head-inputs) ∙ e
-
-        pub output-bad : h .outputs ≤ k → Outcome (refuse cause.OutputNumber) list
-        unfolding evaluateProgram
-        output-bad s = refuses 15 0 (program-is ∙ simp (fits, right, le-ltb k (length (programOf f .outputs)) (omega (arith, head-outputs))))
-
-        same-nodes : nodesIn (bodyOf f 1) ≡ programOf f .nodes
-        unfolding programOf
-        same-nodes = ap (tabulate (nodeAt (bodyOf f 1))) (nodes-counted f (r .accepts .sized))
-
-        -- the nodes can be evaluated
-        pub fillable : Fillable (bodyOf f 1) x (length list)
-        fillable =
-            let n : length x ≡ inputsOf f = bits-count (h .inputs) x e ∙ head-inputs ∙ inputs-is f (r .accepts) in
-            record {
-              ok = rw (n, same-nodes) (table-ok f (r .accepts));
-              bits = bits-are (h .inputs) x e;
-              fits = omega (arith, nodes-counted f (r .accepts .sized), head-nodes, nodes-length f (r .accepts));
-            }
-
-        module _ (s : k < h .outputs) where
-          within : k < outputsOf f
-          within = omega (arith, head-outputs, outputs-length f (r .accepts))
-
-          pub output-few : k < 64
-          output-few = omega (arith, within, r .accepts .outputs-most)
-
-          -- the output's entry is there, and the node that it names has a value
-          pub output-there : 2 * k + 2 ≤ length (bodyOf f 2)
-          output-there = omega (arith, within, outputs-long f (r .accepts .sized .laid), r .accepts .sized .twos)
-
-          pub node-there : outputAt (bodyOf f 2) k < length list
-          node-there = omega (arith, r .accepts .outputs-fit k within, head-nodes, nodes-length f (r .accepts))
-
-          all-counted : length (nodeValues (programOf f .nodes) x) ≡ nodesOf f
-          all-counted = values-length (programOf f .nodes) x ∙ nodes-length f (r .accepts)
-
-          -- the value of the output is the value of the node that it names
-          output-value : getD (nodeValues (programOf f .nodes) x) (outputAt (bodyOf f 2) k) 0 ≡ outputValue (programOf f) x k
-          unfolding outputValue outputTree
-          output-value =
-              values-at (programOf f .nodes) x (outputAt (bodyOf f 2) k)
-              ∙ ap (λ (i : ℕ). value (getD (trees (programOf f .nodes)) i ZERO) x) (sym (output-is f (r .accepts) k within))
-
-          found : evaluateFile f (length list) x k ≡ result (record { bit = outputValue (programOf f) x k; values = nodeValues (programOf f .nodes) x })
-          unfolding evaluateProgram
-          found = program-is ∙ simp (fits, right, lt-ltb k (length (programOf f .outputs)) (omega (arith, head-outputs)))
-
-          pub output-found : (l : List ℕ) → l ≡ nodeValues (nodesIn (bodyOf f 1)) x ++ drop (length (bodyOf f 1) / 6) list → Outcome (result (getD l (outputAt (bodyOf f 2) k) 0)) l
-          output-found l w =
-              let all : List ℕ = nodeValues (programOf f .nodes) x in
-              let o = finds (outputValue (programOf f) x k) all found in
-              let is : l ≡ all ++ drop (length all) list =
-              w ∙ ap₂ (λ (ns : List Node) (n : ℕ). nodeValues ns x ++ drop n list) same-nodes (nodes-counted f (r .accepts .sized) ∙ sym all-counted) in
-              let bit-is : getD l (outputAt (bodyOf f 2) k) 0 ≡ outputValue (programOf f) x k =
-              ap (λ (v : List ℕ). getD v (outputAt (bodyOf f 2) k) 0) is
-              ∙ List·getD-append all (drop (length all) list) 0 (outputAt (bodyOf f 2) k) (omega (arith, all-counted, r .accepts .outputs-fit k within))
-              ∙ output-value in
-              record { answer = ap result bit-is ∙ o .answer; values = is ∙ o .values }
+      pub output-found : (l : List ℕ) → l ≡ nodeValues (nodesIn (bodyOf f 1)) x ++ drop (length (bodyOf f 1) / 6) list → Outcome (result (getD l (outputAt (bodyOf f 2) k) 0)) l
+      output-found l w =
+          let all : List ℕ = nodeValues (programOf f .nodes) x in
+          let o = finds (outputValue (programOf f) x k) all found in
+          let is : l ≡ all ++ drop (length all) list =
+          w ∙ ap₂ (λ (ns : List Node) (n : ℕ). nodeValues ns x ++ drop n list) same-nodes (nodes-counted f (r .accepts .sized) ∙ sym all-counted) in
+          let bit-is : getD l (outputAt (bodyOf f 2) k) 0 ≡ outputValue (programOf f) x k =
+          ap (λ (v : List ℕ). getD v (outputAt (bodyOf f 2) k) 0) is
+          ∙ List·getD-append all (drop (length all) list) 0 (outputAt (bodyOf f 2) k) (omega (arith, all-counted, r .accepts .outputs-fit k within))
+          ∙ output-value in
+          record { answer = ap result bit-is ∙ o .answer; values = is ∙ o .values }

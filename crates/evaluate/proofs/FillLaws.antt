@@ -30,17 +30,11 @@ module _ {o : Node} {vs x : List ℕ} (v : Valued o vs x) where
   pub not-operand : {a : ℕ} → o ≡ Not a → Operand a vs
   not-operand {a} e = let k : NodeOk (length x) (length vs) (Not a) = rw e at (v .ok) in operand a k
 
-  pub xor-first : {a b : ℕ} → o ≡ Xor a b → Operand a vs
-  xor-first {a} {b} e = let k : NodeOk (length x) (length vs) (Xor a b) = rw e at (v .ok) in operand a (k .0)
+  pub xor-operands : {a b : ℕ} → o ≡ Xor a b → Operand a vs × Operand b vs
+  xor-operands {a} {b} e = let k : NodeOk (length x) (length vs) (Xor a b) = rw e at (v .ok) in (operand a (k .0), operand b (k .1))
 
-  pub xor-second : {a b : ℕ} → o ≡ Xor a b → Operand b vs
-  xor-second {a} {b} e = let k : NodeOk (length x) (length vs) (Xor a b) = rw e at (v .ok) in operand b (k .1)
-
-  pub and-first : {a b : ℕ} → o ≡ And a b → Operand a vs
-  and-first {a} {b} e = let k : NodeOk (length x) (length vs) (And a b) = rw e at (v .ok) in operand a (k .0)
-
-  pub and-second : {a b : ℕ} → o ≡ And a b → Operand b vs
-  and-second {a} {b} e = let k : NodeOk (length x) (length vs) (And a b) = rw e at (v .ok) in operand b (k .1)
+  pub and-operands : {a b : ℕ} → o ≡ And a b → Operand a vs × Operand b vs
+  and-operands {a} {b} e = let k : NodeOk (length x) (length vs) (And a b) = rw e at (v .ok) in (operand a (k .0), operand b (k .1))
 
 -- a loop has stored the values of the first i nodes in the list, which was list₀
 pub record Filled (body x list₀ list : List ℕ) (i : ℕ) : Type 0 where

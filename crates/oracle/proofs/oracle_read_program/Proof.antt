@@ -1,9 +1,11 @@
-use mathlib.Core.Path.{sym, ap, _∙_}
+use Prim.Native.Nat.{ℕ}
+use mathlib.Core.Path.{_≡_, sym, ap, _∙_}
+use mathlib.Core.List.{List}
 use Rattle.wire.specs.Answers.{Answer, mapAnswer}
 use Rattle.wire.proofs.AnswerLaws.{mapped-twice}
 use Rattle.program.specs.declared.reader.Head.{Head}
 use Rattle.program.specs.declared.reader.ProgramRead.{ProgramRead}
-use Rattle.program.specs.Programs.{headOf}
+use Rattle.program.specs.Programs.{headOf, nodeCount}
 use Rattle.program.specs.Reading.{readProgram, programRead}
 use Rattle.oracle.specs.Exported.{exported}
 use borrow.Author.Needs.{needs}
@@ -13,6 +15,17 @@ use Rattle.oracle.proofs.oracle_read_program.Reads as reads
 use Rattle.oracle.proofs.oracle_read_program.Lts as lts
 use Rattle.oracle.proofs.refusal.Reads as refusal-reads
 use Rattle.program.proofs.reader.read_program.Reads as read-program-reads
+
+abbrev count : Head → ℕ
+count head = head .nodes
+
+-- the number of nodes in the reader's answer is the program's
+counted : (f : List ℕ) (r s : ProgramRead) → r ≡ s → programRead r ≡ mapAnswer headOf (readProgram f)
+    → exported (mapAnswer count (programRead s)) ≡ exported (mapAnswer nodeCount (readProgram f))
+counted f r s g e =
+    ap (λ (a : ProgramRead). exported (mapAnswer count (programRead a))) (sym g)
+    ∙ ap (λ (a : Answer Head). exported (mapAnswer count a)) e
+    ∙ ap exported (mapped-twice headOf count (readProgram f))
 
 read-program-requires : tie.Need-read-program-requires
 read-program-requires c κs = search needs
@@ -27,10 +40,10 @@ refusal-requires : tie.Need-refusal-requires
 refusal-requires c κs = search needs
 
 returns : tie.Need-returns
-returns c = ap (λ (a : ProgramRead). exported (mapAnswer (λ (h : Head). h .nodes) (programRead a))) (sym (c .before .head .given .1)) ∙ ap (λ (a : Answer Head). exported (mapAnswer (λ (h : Head). h .nodes) a)) (c .before .before .before .read-program .ensures) ∙ ap exported (mapped-twice headOf (λ (h : Head). h .nodes) (readProgram (c .before .before .before .before .before .args .file .now)))
+returns c = counted (c .before .before .before .before .before .args .file .now) _ _ (c .before .head .given .1) (c .before .before .before .read-program .ensures)
 
 returns-2 : tie.Need-returns-2
-returns-2 c = c .refusal .ensures ∙ ap (λ (a : ProgramRead). exported (mapAnswer (λ (h : Head). h .nodes) (programRead a))) (sym (c .before .before .why .given .1)) ∙ ap (λ (a : Answer Head). exported (mapAnswer (λ (h : Head). h .nodes) a)) (c .before .before .before .before .read-program .ensures) ∙ ap exported (mapped-twice headOf (λ (h : Head). h .nodes) (readProgram (c .before .before .before .before .before .before .args .file .now)))
+returns-2 c = c .refusal .ensures ∙ counted (c .before .before .before .before .before .before .args .file .now) _ _ (c .before .before .why .given .1) (c .before .before .before .before .read-program .ensures)
 
 pub oracle-read-program-spec : {M : Type 1} → statement M
 oracle-read-program-spec =

@@ -1,7 +1,7 @@
 use mathlib.Core.Path.{refl}
 use native.Mathlib.Omega.{arith}
 use Rattle.program.specs.Programs.{nodeValue}
-use Rattle.evaluate.proofs.FillLaws.{input-there, not-operand, xor-first, xor-second, and-first, and-second}
+use Rattle.evaluate.proofs.FillLaws.{input-there, not-operand, xor-operands, and-operands}
 use borrow.Author.Needs.{needs}
 use Rattle.evaluate.proofs.values.node_value.Statement.{statement}
 use Rattle.evaluate.proofs.values.node_value.Tie as tie
@@ -44,16 +44,16 @@ cast-xor-bits-2 : tie.Need-cast-xor-bits-2
 cast-xor-bits-2 c = search needs
 
 shared-slice-read-xor-bits-2 : tie.Need-shared-slice-read-xor-bits-2
-shared-slice-read-xor-bits-2 c = xor-first (c .before .before .before .before .before .before .pre) (c .before .before .node3 .given .1) .there
+shared-slice-read-xor-bits-2 c = xor-operands (c .before .before .before .before .before .before .pre) (c .before .before .node3 .given .1) .0 .there
 
 cast-xor-bits-3 : tie.Need-cast-xor-bits-3
 cast-xor-bits-3 c = search needs
 
 shared-slice-read-xor-bits-3 : tie.Need-shared-slice-read-xor-bits-3
-shared-slice-read-xor-bits-3 c = xor-second (c .before .before .before .before .before .before .before .pre) (c .before .before .before .node3 .given .1) .there
+shared-slice-read-xor-bits-3 c = xor-operands (c .before .before .before .before .before .before .before .pre) (c .before .before .before .node3 .given .1) .1 .there
 
 xor-bits-requires-2 : tie.Need-xor-bits-requires-2
-xor-bits-requires-2 c κs = (xor-first (c .before .before .before .before .before .before .before .pre) (c .before .before .before .node3 .given .1) .is-bit, xor-second (c .before .before .before .before .before .before .before .pre) (c .before .before .before .node3 .given .1) .is-bit)
+xor-bits-requires-2 c κs = (xor-operands (c .before .before .before .before .before .before .before .pre) (c .before .before .before .node3 .given .1) .0 .is-bit, xor-operands (c .before .before .before .before .before .before .before .pre) (c .before .before .before .node3 .given .1) .1 .is-bit)
 
 enum-known-node-4 : tie.Need-enum-known-node-4
 enum-known-node-4 c = search needs
@@ -62,16 +62,16 @@ cast-and-bits : tie.Need-cast-and-bits
 cast-and-bits c = search needs
 
 shared-slice-read-and-bits : tie.Need-shared-slice-read-and-bits
-shared-slice-read-and-bits c = and-first (c .before .before .before .before .before .before .pre) (c .before .before .node4 .given .1) .there
+shared-slice-read-and-bits c = and-operands (c .before .before .before .before .before .before .pre) (c .before .before .node4 .given .1) .0 .there
 
 cast-and-bits-2 : tie.Need-cast-and-bits-2
 cast-and-bits-2 c = search needs
 
 shared-slice-read-and-bits-2 : tie.Need-shared-slice-read-and-bits-2
-shared-slice-read-and-bits-2 c = and-second (c .before .before .before .before .before .before .before .pre) (c .before .before .before .node4 .given .1) .there
+shared-slice-read-and-bits-2 c = and-operands (c .before .before .before .before .before .before .before .pre) (c .before .before .before .node4 .given .1) .1 .there
 
 and-bits-requires : tie.Need-and-bits-requires
-and-bits-requires c κs = (and-first (c .before .before .before .before .before .before .before .pre) (c .before .before .before .node4 .given .1) .is-bit, and-second (c .before .before .before .before .before .before .before .pre) (c .before .before .before .node4 .given .1) .is-bit)
+and-bits-requires c κs = (and-operands (c .before .before .before .before .before .before .before .pre) (c .before .before .before .node4 .given .1) .0 .is-bit, and-operands (c .before .before .before .before .before .before .before .pre) (c .before .before .before .node4 .given .1) .1 .is-bit)
 
 returns : tie.Need-returns
 unfolding nodeValue

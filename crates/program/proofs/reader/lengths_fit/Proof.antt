@@ -1,14 +1,14 @@
-use mathlib.Core.List.{List}
-use Rattle.wire.specs.Bytes.{at16}
+use Prim.Native.Nat.{ℕ, _*_, _%_, _≤_}
 use native.Mathlib.Omega.{arith}
-use mathlib.Core.Path.{_≡_, sym, ap, _∙_}
+use mathlib.Core.Path.{_≡_, sym, ap, ap₂, _∙_}
+use mathlib.Core.Bool.{true}
+use mathlib.Core.List.{List}
 use lib.ListN.{length}
-use denote.Ref.{now}
+use lib.Dec.{eqb, leb}
 use borrow.Author.Tests.{eq-eqb, ne-eqb, le-leb, lt-leb}
-use mathlib.Core.Path.{ap₂}
-use Prim.Native.Nat.{ℕ, _*_, _%_}
-use lib.Dec.{eqb}
-use Rattle.program.specs.Reading.{outputsOf, nodesOf, lengthsFit}
+use Rattle.wire.specs.Bytes.{at16}
+use Rattle.wire.specs.Contents.{entryLength}
+use Rattle.program.specs.Reading.{nodesOf, lengthsFit}
 use Rattle.program.proofs.ReadingLaws.{head-long}
 use borrow.Author.Needs.{needs}
 use Rattle.program.proofs.reader.lengths_fit.Statement.{statement}
@@ -18,6 +18,29 @@ use Rattle.program.proofs.reader.lengths_fit.Lts as lts
 use Rattle.wire.proofs.contents.body.Reads as body-reads
 use Rattle.wire.proofs.contents.entry_length.Reads as entry-length-reads
 use Rattle.wire.proofs.numbers.get16.Reads as get16-reads
+
+abbrev claims : lts.Claims
+claims = (
+  entry-length-reads.Asked,
+  entry-length-reads.Learnt,
+  body-reads.Asked,
+  body-reads.Learnt,
+  get16-reads.Asked,
+  get16-reads.Learnt,
+)
+
+-- the tests that held, each where its branch was passed
+four : (c : lts.Else1 claims reads.Pre reads.Post) → eqb (entryLength (c .before .before .before .args .file .now) 0) 4 ≡ true
+four c = eq-eqb _ _ (sym (c .before .entry-length .ensures) ∙ c .if1 .left)
+
+sixes : (c : lts.Else2 claims reads.Pre reads.Post) → eqb (entryLength (c .before .before .before .before .before .args .file .now) 1 % 6) 0 ≡ true
+sixes c = eq-eqb _ _ (ap (λ (x : ℕ). x % 6) (sym (c .before .entry-length2 .ensures)) ∙ c .if2 .left)
+
+some : (c : lts.Else3 claims reads.Pre reads.Post) → leb 1 (nodesOf (c .before .before .before .before .before .before .args .file .now)) ≡ true
+some c = le-leb 1 (nodesOf (c .before .before .before .before .before .before .args .file .now)) (omega (arith, c .before .before .entry-length2 .ensures, c .if3 .left))
+
+most : (c : lts.Else4 claims reads.Pre reads.Post) → leb (nodesOf (c .before .before .before .before .before .before .before .args .file .now)) 4096 ≡ true
+most c = le-leb (nodesOf (c .before .before .before .before .before .before .before .args .file .now)) 4096 (omega (arith, c .before .before .before .entry-length2 .ensures, c .if4 .left))
 
 entry-length-requires : tie.Need-entry-length-requires
 entry-length-requires c κs = search needs
@@ -31,15 +54,19 @@ entry-length-requires-2 c κs = search needs
 
 returns-2 : tie.Need-returns-2
 unfolding lengthsFit
-returns-2 c = simp (eq-eqb _ _ (sym (c .before .before .before .entry-length .ensures) ∙ c .before .before .if1 .left), ne-eqb _ _ (λ e. c .if2 .taken (ap (λ (x : ℕ). x % 6) (c .before .entry-length2 .ensures) ∙ e)))
+returns-2 c = simp (four (c .before .before), ne-eqb _ _ (λ e. c .if2 .taken (ap (λ (x : ℕ). x % 6) (c .before .entry-length2 .ensures) ∙ e)))
 
 returns-3 : tie.Need-returns-3
 unfolding lengthsFit
-returns-3 c = let l = c .before .before .entry-length2 .ensures in simp (eq-eqb _ _ (sym (c .before .before .before .before .entry-length .ensures) ∙ c .before .before .before .if1 .left), eq-eqb _ _ (ap (λ (x : ℕ). x % 6) (sym l) ∙ c .before .if2 .left), lt-leb 1 (nodesOf (now (c .before .before .before .before .before .before .args .file))) (omega (arith, l, c .if3 .taken)))
+returns-3 c =
+    let f = c .before .before .before .before .before .before .args .file .now in
+    simp (four (c .before .before .before), sixes (c .before), lt-leb 1 (nodesOf f) (omega (arith, c .before .before .entry-length2 .ensures, c .if3 .taken)))
 
 returns-4 : tie.Need-returns-4
 unfolding lengthsFit
-returns-4 c = let l = c .before .before .before .entry-length2 .ensures in simp (eq-eqb _ _ (sym (c .before .before .before .before .before .entry-length .ensures) ∙ c .before .before .before .before .if1 .left), eq-eqb _ _ (ap (λ (x : ℕ). x % 6) (sym l) ∙ c .before .before .if2 .left), le-leb 1 (nodesOf (now (c .before .before .before .before .before .before .before .args .file))) (omega (arith, l, c .before .if3 .left)), lt-leb (nodesOf (now (c .before .before .before .before .before .before .before .args .file))) 4096 (omega (arith, l, c .if4 .taken)))
+returns-4 c =
+    let f = c .before .before .before .before .before .before .before .args .file .now in
+    simp (four (c .before .before .before .before), sixes (c .before .before), some (c .before), lt-leb (nodesOf f) 4096 (omega (arith, c .before .before .before .entry-length2 .ensures, c .if4 .taken)))
 
 body-requires : tie.Need-body-requires
 body-requires c κs = search needs
@@ -58,7 +85,9 @@ mul-result c = search needs
 
 returns-5 : tie.Need-returns-5
 unfolding lengthsFit
-returns-5 c = let l = c .before .before .before .before .before .before .entry-length2 .ensures in let f = now (c .before .before .before .before .before .before .before .before .before .before .args .file) in simp (eq-eqb _ _ (sym (c .before .before .before .before .before .before .before .before .entry-length .ensures) ∙ c .before .before .before .before .before .before .before .if1 .left), eq-eqb _ _ (ap (λ (x : ℕ). x % 6) (sym l) ∙ c .before .before .before .before .before .if2 .left), le-leb 1 (nodesOf f) (omega (arith, l, c .before .before .before .before .if3 .left)), le-leb (nodesOf f) 4096 (omega (arith, l, c .before .before .before .if4 .left))) (ap₂ (λ (x y : ℕ). eqb x (2 * y)) (c .entry-length3 .ensures) (c .before .get16 .ensures ∙ ap (λ (l : List ℕ). at16 l 2) (c .before .before .body .ensures)))
+returns-5 c =
+    let outputs = c .before .get16 .ensures ∙ ap (λ (l : List ℕ). at16 l 2) (c .before .before .body .ensures) in
+    simp (four (c .before .before .before .before .before .before .before), sixes (c .before .before .before .before .before), some (c .before .before .before .before), most (c .before .before .before)) (ap₂ (λ (x y : ℕ). eqb x (2 * y)) (c .entry-length3 .ensures) outputs)
 
 pub lengths-fit-spec : {M : Type 1} → statement M
 lengths-fit-spec =

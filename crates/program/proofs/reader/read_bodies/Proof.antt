@@ -1,19 +1,16 @@
-use mathlib.Core.List.{List}
-use Rattle.wire.specs.Bytes.{at16}
-use Rattle.program.proofs.ReadingLaws.{nodes-lowest, outputs-lowest}
-use Rattle.program.proofs.ReadingLaws.{head-of}
+use Prim.Native.Nat.{ℕ, _/_}
 use native.Mathlib.Omega.{arith}
 use mathlib.Core.Path.{_≡_, sym, ap, _∙_}
+use mathlib.Core.List.{List}
 use lib.ListN.{length}
-use denote.Ref.{now}
-use borrow.Author.Tests.{eq-eqb, ne-eqb, le-leb, lt-leb}
-use Prim.Native.Nat.{ℕ, _/_}
+use borrow.Author.Tests.{eq-eqb, ne-eqb}
 use Rattle.wire.specs.Answers.{refused}
+use Rattle.wire.specs.Bytes.{at16}
 use Rattle.wire.specs.Checks.{lowest}
 use Rattle.wire.specs.Contents.{bodyOf}
 use Rattle.program.specs.Nodes.{nodeFits}
 use Rattle.program.specs.Reading.{inputsOf, outputsOf, nodesOf, outputFits, programOf, readBodies}
-use Rattle.program.proofs.ReadingLaws.{head-long}
+use Rattle.program.proofs.ReadingLaws.{head-long, nodes-lowest, outputs-lowest, head-of}
 use borrow.Author.Needs.{needs}
 use Rattle.program.proofs.reader.read_bodies.Statement.{statement}
 use Rattle.program.proofs.reader.read_bodies.Tie as tie
@@ -26,6 +23,40 @@ use Rattle.program.proofs.reader.read_outputs.Reads as read-outputs-rea
 use Rattle.wire.proofs.contents.body.Reads as body-reads
 use Rattle.wire.proofs.contents.entry_length.Reads as entry-length-reads
 use Rattle.wire.proofs.numbers.get16.Reads as get16-reads
+
+abbrev claims : lts.Claims
+claims = (
+  body-reads.Asked,
+  body-reads.Learnt,
+  get16-reads.Asked,
+  get16-reads.Learnt,
+  entry-length-reads.Asked,
+  entry-length-reads.Learnt,
+  node-body-reads.Asked,
+  node-body-reads.Learnt,
+  read-nodes-reads.Asked,
+  read-nodes-reads.Learnt,
+  output-body-reads.Asked,
+  output-body-reads.Learnt,
+  read-outputs-reads.Asked,
+  read-outputs-reads.Learnt,
+)
+
+-- what was read, in the definitions' terms
+inputs : (c : lts.After-get16 claims reads.Pre reads.Post) → c .get16 .result ≡ inputsOf (c .before .before .before .args .file .now)
+inputs c = c .get16 .ensures ∙ ap (λ (l : List ℕ). at16 l 0) (c .before .body .ensures)
+
+outputs : (c : lts.After-get162 claims reads.Pre reads.Post) → c .get162 .result ≡ outputsOf (c .before .before .before .before .args .file .now)
+outputs c = c .get162 .ensures ∙ ap (λ (l : List ℕ). at16 l 2) (c .before .before .body .ensures)
+
+nodes : (c : lts.After-entry-length claims reads.Pre reads.Post) → c .entry-length .result / 6 ≡ nodesOf (c .before .before .before .before .before .args .file .now)
+nodes c = ap (λ (l : ℕ). l / 6) (c .entry-length .ensures)
+
+node : (c : lts.After-read-nodes claims reads.Pre reads.Post) → c .read-nodes .result ≡ lowest (nodeFits (inputsOf (c .before .before .before .before .before .before .before .args .file .now)) (bodyOf (c .before .before .before .before .before .before .before .args .file .now) 1)) (nodesOf (c .before .before .before .before .before .before .before .args .file .now))
+node c = c .read-nodes .ensures ∙ nodes-lowest (c .before .before .before .before .before .before .before .args .file .now) (c .before .before .before .before .before .before .before .pre) (inputs (c .before .before .before .before)) (c .before .node-body .ensures)
+
+output : (c : lts.After-read-outputs claims reads.Pre reads.Post) → c .read-outputs .result ≡ lowest (outputFits (nodesOf (c .before .before .before .before .before .before .before .before .before .before .args .file .now)) (bodyOf (c .before .before .before .before .before .before .before .before .before .before .args .file .now) 2)) (outputsOf (c .before .before .before .before .before .before .before .before .before .before .args .file .now))
+output c = c .read-outputs .ensures ∙ outputs-lowest (c .before .before .before .before .before .before .before .before .before .before .args .file .now) (c .before .before .before .before .before .before .before .before .before .before .pre) (nodes (c .before .before .before .before .before)) (c .before .output-body .ensures)
 
 body-requires : tie.Need-body-requires
 body-requires c κs = search needs
@@ -56,7 +87,8 @@ read-nodes-requires c κs = search needs
 
 returns : tie.Need-returns
 unfolding readBodies
-returns c = let f = now (c .before .before .before .before .before .before .before .before .args .file) in let n : c .before .before .before .before .before .get16 .result ≡ inputsOf f = c .before .before .before .before .before .get16 .ensures ∙ ap (λ (l : List ℕ). at16 l 0) (c .before .before .before .before .before .before .body .ensures) in let k : c .before .before .before .entry-length .result / 6 ≡ nodesOf f = ap (λ (l : ℕ). l / 6) (c .before .before .before .entry-length .ensures) in let e : c .before .read-nodes .result ≡ lowest (nodeFits (inputsOf f) (bodyOf f 1)) (nodesOf f) = c .before .read-nodes .ensures ∙ nodes-lowest f (c .before .before .before .before .before .before .before .before .pre) n (c .before .before .node-body .ensures) in simp (ne-eqb _ _ (λ z. c .if1 .taken (e ∙ z ∙ sym k))) (ap (λ (x : ℕ). refused 5 x) e)
+returns c =
+    simp (ne-eqb _ _ (λ z. c .if1 .taken (node (c .before) ∙ z ∙ sym (nodes (c .before .before .before))))) (ap (λ (x : ℕ). refused 5 x) (node (c .before)))
 
 output-body-requires : tie.Need-output-body-requires
 output-body-requires c κs = search needs
@@ -66,11 +98,16 @@ read-outputs-requires c κs = search needs
 
 returns-2 : tie.Need-returns-2
 unfolding readBodies
-returns-2 c = let f = now (c .before .before .before .before .before .before .before .before .before .before .before .args .file) in let n : c .before .before .before .before .before .before .before .before .get16 .result ≡ inputsOf f = c .before .before .before .before .before .before .before .before .get16 .ensures ∙ ap (λ (l : List ℕ). at16 l 0) (c .before .before .before .before .before .before .before .before .before .body .ensures) in let k : c .before .before .before .before .before .before .entry-length .result / 6 ≡ nodesOf f = ap (λ (l : ℕ). l / 6) (c .before .before .before .before .before .before .entry-length .ensures) in let e : c .before .before .before .before .read-nodes .result ≡ lowest (nodeFits (inputsOf f) (bodyOf f 1)) (nodesOf f) = c .before .before .before .before .read-nodes .ensures ∙ nodes-lowest f (c .before .before .before .before .before .before .before .before .before .before .before .pre) n (c .before .before .before .before .before .node-body .ensures) in let m : c .before .before .before .before .before .before .before .get162 .result ≡ outputsOf f = c .before .before .before .before .before .before .before .get162 .ensures ∙ ap (λ (l : List ℕ). at16 l 2) (c .before .before .before .before .before .before .before .before .before .body .ensures) in let g : c .before .read-outputs .result ≡ lowest (outputFits (nodesOf f) (bodyOf f 2)) (outputsOf f) = c .before .read-outputs .ensures ∙ outputs-lowest f (c .before .before .before .before .before .before .before .before .before .before .before .pre) k (c .before .before .output-body .ensures) in simp (eq-eqb _ _ (sym e ∙ c .before .before .before .if1 .left ∙ k), ne-eqb _ _ (λ z. c .if2 .taken (g ∙ z ∙ sym m))) (ap (λ (x : ℕ). refused 6 x) g)
+returns-2 c =
+    let right = sym (node (c .before .before .before .before)) ∙ c .before .before .before .if1 .left ∙ nodes (c .before .before .before .before .before .before) in
+    simp (eq-eqb _ _ right, ne-eqb _ _ (λ z. c .if2 .taken (output (c .before) ∙ z ∙ sym (outputs (c .before .before .before .before .before .before .before))))) (ap (λ (x : ℕ). refused 6 x) (output (c .before)))
 
 returns-3 : tie.Need-returns-3
 unfolding readBodies programOf
-returns-3 c = let f = now (c .before .before .before .before .before .before .before .before .before .before .before .args .file) in let n : c .before .before .before .before .before .before .before .before .get16 .result ≡ inputsOf f = c .before .before .before .before .before .before .before .before .get16 .ensures ∙ ap (λ (l : List ℕ). at16 l 0) (c .before .before .before .before .before .before .before .before .before .body .ensures) in let k : c .before .before .before .before .before .before .entry-length .result / 6 ≡ nodesOf f = ap (λ (l : ℕ). l / 6) (c .before .before .before .before .before .before .entry-length .ensures) in let e : c .before .before .before .before .read-nodes .result ≡ lowest (nodeFits (inputsOf f) (bodyOf f 1)) (nodesOf f) = c .before .before .before .before .read-nodes .ensures ∙ nodes-lowest f (c .before .before .before .before .before .before .before .before .before .before .before .pre) n (c .before .before .before .before .before .node-body .ensures) in let m : c .before .before .before .before .before .before .before .get162 .result ≡ outputsOf f = c .before .before .before .before .before .before .before .get162 .ensures ∙ ap (λ (l : List ℕ). at16 l 2) (c .before .before .before .before .before .before .before .before .before .body .ensures) in let g : c .before .read-outputs .result ≡ lowest (outputFits (nodesOf f) (bodyOf f 2)) (outputsOf f) = c .before .read-outputs .ensures ∙ outputs-lowest f (c .before .before .before .before .before .before .before .before .before .before .before .pre) k (c .before .before .output-body .ensures) in simp (eq-eqb _ _ (sym e ∙ c .before .before .before .if1 .left ∙ k), eq-eqb _ _ (sym g ∙ c .if2 .left ∙ m)) (head-of f n m k)
+returns-3 c =
+    let right = sym (node (c .before .before .before .before)) ∙ c .before .before .before .if1 .left ∙ nodes (c .before .before .before .before .before .before) in
+    let right₂ = sym (output (c .before)) ∙ c .if2 .left ∙ outputs (c .before .before .before .before .before .before .before) in
+    simp (eq-eqb _ _ right, eq-eqb _ _ right₂) (head-of (c .before .before .before .before .before .before .before .before .before .before .before .args .file .now) (inputs (c .before .before .before .before .before .before .before .before)) (outputs (c .before .before .before .before .before .before .before)) (nodes (c .before .before .before .before .before .before)))
 
 pub read-bodies-spec : {M : Type 1} → statement M
 read-bodies-spec =

@@ -28,7 +28,10 @@ enum-known-node : tie.Need-enum-known-node Inv-loop μ-loop
 enum-known-node c = search needs
 
 returns : tie.Need-returns Inv-loop μ-loop
-returns c = let e = c .before .before .before .read-node .ensures in let g = c .before .node .given .1 in read-index _ _ _ e g ∙ sym (passed-fails _ (c .before .before .before .before .before .loop .inv) (c .before .before .before .before .loop-test .taken) (read-bad _ _ _ e g))
+returns c =
+    let e = c .before .before .before .read-node .ensures in
+    let g = c .before .node .given .1 in
+    read-index _ _ _ e g ∙ sym (passed-fails _ (c .before .before .before .before .before .loop .inv) (c .before .before .before .before .loop-test .taken) (read-bad _ _ _ e g))
 
 enum-told : tie.Need-enum-told Inv-loop μ-loop
 enum-told c = search needs

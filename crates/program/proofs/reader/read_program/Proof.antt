@@ -1,7 +1,10 @@
+use mathlib.Core.Path.{_≡_, sym, _∙_}
+use mathlib.Core.Bool.{true, false}
 use borrow.Author.Tests.{not-true, not-false}
-use mathlib.Core.Path.{sym, _∙_}
+use Rattle.wire.specs.Contents.{tableFits, entriesFit}
 use Rattle.wire.proofs.ContentsLaws.{table-whole}
-use Rattle.program.specs.Reading.{readProgram}
+use Rattle.program.specs.Layout.{Laid, Sized}
+use Rattle.program.specs.Reading.{tags, lengthsFit, rangesFit, readProgram}
 use Rattle.program.proofs.ReadingLaws.{laid, sized}
 use borrow.Author.Needs.{needs}
 use Rattle.program.proofs.reader.read_program.Statement.{statement}
@@ -14,6 +17,40 @@ use Rattle.program.proofs.reader.read_bodies.Reads as read-bodies-reads
 use Rattle.wire.proofs.contents.entries_fit.Reads as entries-fit-reads
 use Rattle.wire.proofs.contents.table_fits.Reads as table-fits-reads
 
+abbrev claims : lts.Claims
+claims = (
+  table-fits-reads.Asked,
+  table-fits-reads.Learnt,
+  entries-fit-reads.Asked,
+  entries-fit-reads.Learnt,
+  lengths-fit-reads.Asked,
+  lengths-fit-reads.Learnt,
+  ranges-fit-reads.Asked,
+  ranges-fit-reads.Learnt,
+  read-bodies-reads.Asked,
+  read-bodies-reads.Learnt,
+)
+
+-- the tests that held, each where its branch was passed
+table : (c : lts.Else1 claims reads.Pre reads.Post) → tableFits 3 (c .before .before .before .args .file .now) ≡ true
+table c = sym (c .before .table-fits .ensures) ∙ not-false _ (c .if1 .left)
+
+entries : (c : lts.Else2 claims reads.Pre reads.Post) → entriesFit tags (c .before .before .before .before .before .before .args .file .now) ≡ true
+entries c = sym (c .before .entries-fit .ensures) ∙ not-false _ (c .if2 .left)
+
+lengths : (c : lts.Else3 claims reads.Pre reads.Post) → lengthsFit (c .before .before .before .before .before .before .before .before .args .file .now) ≡ true
+lengths c = sym (c .before .lengths-fit .ensures) ∙ not-false _ (c .if3 .left)
+
+ranges : (c : lts.Else4 claims reads.Pre reads.Post) → rangesFit (c .before .before .before .before .before .before .before .before .before .before .args .file .now) ≡ true
+ranges c = sym (c .before .ranges-fit .ensures) ∙ not-false _ (c .if4 .left)
+
+-- and what they say of the file
+laid-at : (c : lts.Else2 claims reads.Pre reads.Post) → Laid (c .before .before .before .before .before .before .args .file .now)
+laid-at c = laid (c .before .before .before .before .before .before .args .file .now) (table (c .before .before .before)) (entries c)
+
+sized-at : (c : lts.Else3 claims reads.Pre reads.Post) → Sized (c .before .before .before .before .before .before .before .before .args .file .now)
+sized-at c = sized (c .before .before .before .before .before .before .before .before .args .file .now) (laid-at (c .before .before)) (lengths c)
+
 table-fits-requires : tie.Need-table-fits-requires
 table-fits-requires c κs = search needs
 
@@ -25,32 +62,32 @@ slice-aggregate-entries-fit : tie.Need-slice-aggregate-entries-fit
 slice-aggregate-entries-fit c = search needs
 
 entries-fit-requires : tie.Need-entries-fit-requires
-entries-fit-requires c κs = table-whole 3 _ (sym (c .before .before .table-fits .ensures) ∙ not-false _ (c .before .if1 .left))
+entries-fit-requires c κs = table-whole 3 (c .before .before .before .before .args .file .now) (table (c .before))
 
 returns-2 : tie.Need-returns-2
 unfolding readProgram
-returns-2 c = simp (sym (c .before .before .before .before .table-fits .ensures) ∙ not-false _ (c .before .before .before .if1 .left), sym (c .before .entries-fit .ensures) ∙ not-true _ (c .if2 .taken))
+returns-2 c = simp (table (c .before .before .before), sym (c .before .entries-fit .ensures) ∙ not-true _ (c .if2 .taken))
 
 lengths-fit-requires : tie.Need-lengths-fit-requires
-lengths-fit-requires c κs = laid _ (sym (c .before .before .before .before .table-fits .ensures) ∙ not-false _ (c .before .before .before .if1 .left)) (sym (c .before .entries-fit .ensures) ∙ not-false _ (c .if2 .left))
+lengths-fit-requires c κs = laid-at c
 
 returns-3 : tie.Need-returns-3
 unfolding readProgram
-returns-3 c = simp (sym (c .before .before .before .before .before .before .table-fits .ensures) ∙ not-false _ (c .before .before .before .before .before .if1 .left), sym (c .before .before .before .entries-fit .ensures) ∙ not-false _ (c .before .before .if2 .left), sym (c .before .lengths-fit .ensures) ∙ not-true _ (c .if3 .taken))
+returns-3 c = simp (table (c .before .before .before .before .before), entries (c .before .before), sym (c .before .lengths-fit .ensures) ∙ not-true _ (c .if3 .taken))
 
 ranges-fit-requires : tie.Need-ranges-fit-requires
-ranges-fit-requires c κs = sized _ (laid _ (sym (c .before .before .before .before .before .before .table-fits .ensures) ∙ not-false _ (c .before .before .before .before .before .if1 .left)) (sym (c .before .before .before .entries-fit .ensures) ∙ not-false _ (c .before .before .if2 .left))) (sym (c .before .lengths-fit .ensures) ∙ not-false _ (c .if3 .left))
+ranges-fit-requires c κs = sized-at c
 
 returns-4 : tie.Need-returns-4
 unfolding readProgram
-returns-4 c = simp (sym (c .before .before .before .before .before .before .before .before .table-fits .ensures) ∙ not-false _ (c .before .before .before .before .before .before .before .if1 .left), sym (c .before .before .before .before .before .entries-fit .ensures) ∙ not-false _ (c .before .before .before .before .if2 .left), sym (c .before .before .before .lengths-fit .ensures) ∙ not-false _ (c .before .before .if3 .left), sym (c .before .ranges-fit .ensures) ∙ not-true _ (c .if4 .taken))
+returns-4 c = simp (table (c .before .before .before .before .before .before .before), entries (c .before .before .before .before), lengths (c .before .before), sym (c .before .ranges-fit .ensures) ∙ not-true _ (c .if4 .taken))
 
 read-bodies-requires : tie.Need-read-bodies-requires
-read-bodies-requires c κs = sized _ (laid _ (sym (c .before .before .before .before .before .before .before .before .table-fits .ensures) ∙ not-false _ (c .before .before .before .before .before .before .before .if1 .left)) (sym (c .before .before .before .before .before .entries-fit .ensures) ∙ not-false _ (c .before .before .before .before .if2 .left))) (sym (c .before .before .before .lengths-fit .ensures) ∙ not-false _ (c .before .before .if3 .left))
+read-bodies-requires c κs = sized-at (c .before .before)
 
 returns-5 : tie.Need-returns-5
 unfolding readProgram
-returns-5 c = simp (sym (c .before .before .before .before .before .before .before .before .before .table-fits .ensures) ∙ not-false _ (c .before .before .before .before .before .before .before .before .if1 .left), sym (c .before .before .before .before .before .before .entries-fit .ensures) ∙ not-false _ (c .before .before .before .before .before .if2 .left), sym (c .before .before .before .before .lengths-fit .ensures) ∙ not-false _ (c .before .before .before .if3 .left), sym (c .before .before .ranges-fit .ensures) ∙ not-false _ (c .before .if4 .left)) (c .read-bodies .ensures)
+returns-5 c = simp (table (c .before .before .before .before .before .before .before .before), entries (c .before .before .before .before .before), lengths (c .before .before .before), ranges (c .before)) (c .read-bodies .ensures)
 
 pub read-program-spec : {M : Type 1} → statement M
 read-program-spec =

@@ -31,7 +31,11 @@ shared-slice-read-if2 c = search needs
 
 returns-2 : tie.Need-returns-2 Inv-loop μ-loop
 unfolding bitsFit
-returns-2 c = let s = c .before .before .before .before .before .args .s .now in let i = c .before .before .before .loop .i in let e = passed-fails (λ (k : ℕ). ltb (bit s k) 2) (c .before .before .before .loop .inv) (c .before .before .loop-test .taken) (le-ltb (bit s i) 2 (omega (arith, c .if2 .taken))) in simp (eq-eqb _ _ (c .before .before .before .before .if1 .left), ne-eqb _ _ (λ (z : lowest (λ (k : ℕ). ltb (bit s k) 2) (length s) ≡ length s). absurd (omega (arith, e, z))))
+returns-2 c =
+    let s = c .before .before .before .before .before .args .s .now in
+    let i = c .before .before .before .loop .i in
+    let e = passed-fails (λ (k : ℕ). ltb (bit s k) 2) (c .before .before .before .loop .inv) (c .before .before .loop-test .taken) (le-ltb (bit s i) 2 (omega (arith, c .if2 .taken))) in
+    simp (eq-eqb _ _ (c .before .before .before .before .if1 .left), ne-eqb _ _ (λ (z : lowest (λ (k : ℕ). ltb (bit s k) 2) (length s) ≡ length s). absurd (omega (arith, e, z))))
 
 add-i : tie.Need-add-i Inv-loop μ-loop
 add-i c = search needs
@@ -44,7 +48,10 @@ loop-again c = passed-next (λ (k : ℕ). ltb (bit (c .before .before .before .b
 
 returns-3 : tie.Need-returns-3 Inv-loop μ-loop
 unfolding bitsFit
-returns-3 c = let s = c .before .before .before .args .s .now in let e = passed-all (λ (k : ℕ). ltb (bit s k) 2) (c .before .loop .inv) (c .loop-test .left) in simp (eq-eqb _ _ (c .before .before .if1 .left), eq-eqb (lowest (λ (k : ℕ). ltb (bit s k) 2) (length s)) (length s) e)
+returns-3 c =
+    let s = c .before .before .before .args .s .now in
+    let e = passed-all (λ (k : ℕ). ltb (bit s k) 2) (c .before .loop .inv) (c .loop-test .left) in
+    simp (eq-eqb _ _ (c .before .before .if1 .left), eq-eqb (lowest (λ (k : ℕ). ltb (bit s k) 2) (length s)) (length s) e)
 
 pub bits-fit-spec : {M : Type 1} → statement M
 bits-fit-spec =

@@ -35,7 +35,12 @@ part-result-end : tie.Need-part-result-end
 part-result-end c = search needs
 
 returns : tie.Need-returns
-returns c = let f = c .before .before .before .before .args .file .now in let start = c .before .before .entry-start .result in let len = c .before .entry-length .result in let e : start + len - start ≡ len = omega arith in ap₂ (λ (n s : ℕ). take n (drop s f)) (e ∙ c .before .entry-length .ensures) (c .before .before .entry-start .ensures)
+returns c =
+    let f = c .before .before .before .before .args .file .now in
+    let start = c .before .before .entry-start .result in
+    let len = c .before .entry-length .result in
+    let e : start + len - start ≡ len = omega arith in
+    ap₂ (λ (n s : ℕ). take n (drop s f)) (e ∙ c .before .entry-length .ensures) (c .before .before .entry-start .ensures)
 
 pub body-spec : {M : Type 1} → statement M
 body-spec =

@@ -27,7 +27,9 @@ same-length : tie.Need-same-length
 same-length c = search needs
 
 returns : tie.Need-returns
-returns c = let a = c .before .before .before .before .before .before .before .before .before .before .before .before .before .args in entry-stores (now (a .area)) (a .at) (a .tag) (a .start) (a .len) (c .before .before .before .before .before .before .before .before .before .before .put16 .ensures) (c .before .before .before .before .before .before .put32 .ensures) (c .before .before .put322 .ensures)
+returns c =
+    let a = c .before .before .before .before .before .before .before .before .before .before .before .before .before .args in
+    entry-stores (now (a .area)) (a .at) (a .tag) (a .start) (a .len) (c .before .before .before .before .before .before .before .before .before .before .put16 .ensures) (c .before .before .before .before .before .before .put32 .ensures) (c .before .before .put322 .ensures)
 
 pub put-entry-spec : {M : Type 1} → statement M
 put-entry-spec =
