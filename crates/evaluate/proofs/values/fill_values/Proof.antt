@@ -46,7 +46,11 @@ loop-less : tie.Need-loop-less Inv-loop μ-loop
 loop-less c = search needs
 
 loop-again : tie.Need-loop-again Inv-loop μ-loop
-loop-again c = filled-next _ _ _ (c .before .before .before .before .loop .inv) (c .before .before .before .before .before .before .before .before .pre) (c .before .before .before .loop-test .taken) (c .node-value .ensures ∙ ap (λ (o : Node). nodeValue o (take (c .before .before .before .before .loop .i) (c .before .before .before .before .loop .values)) (now (c .before .before .before .before .before .before .before .before .args .inputs))) (c .before .before .node-at .ensures))
+loop-again c =
+    let a = c .before .before .before .before .before .before .before .before .args in
+    let at = c .before .before .before .before .loop in
+    let value = c .node-value .ensures ∙ ap (λ (o : Node). nodeValue o (take (at .i) (at .values)) (a .inputs .now)) (c .before .before .node-at .ensures) in
+    filled-next _ _ _ (at .inv) (c .before .before .before .before .before .before .before .before .pre) (c .before .before .before .loop-test .taken) value
 
 same-length : tie.Need-same-length Inv-loop μ-loop
 same-length c = c .before .loop .inv .same

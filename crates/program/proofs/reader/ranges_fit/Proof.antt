@@ -26,8 +26,9 @@ get16-requires c κs = omega (arith, ap length (c .body .ensures), head-long _ (
 returns : tie.Need-returns
 unfolding rangesFit
 returns c =
-    let f = now (c .before .before .before .before .args .file) in
-    simp (lt-leb (inputsOf f) 64 (omega (arith, c .before .get16 .ensures ∙ ap (λ (l : List ℕ). at16 l 0) (c .before .before .body .ensures), c .if1 .taken)))
+    let f = c .before .before .before .before .args .file .now in
+    let inputs = c .before .get16 .ensures ∙ ap (λ (l : List ℕ). at16 l 0) (c .before .before .body .ensures) in
+    simp (lt-leb (inputsOf f) 64 (omega (arith, inputs, c .if1 .taken)))
 
 get16-requires-2 : tie.Need-get16-requires-2
 get16-requires-2 c κs = omega (arith, ap length (c .before .before .body .ensures), head-long _ (c .before .before .before .before .pre .laid), c .before .before .before .before .pre .four)
@@ -35,15 +36,18 @@ get16-requires-2 c κs = omega (arith, ap length (c .before .before .body .ensur
 returns-2 : tie.Need-returns-2
 unfolding rangesFit
 returns-2 c =
-    let f = now (c .before .before .before .before .before .before .args .file) in
-    simp (le-leb (inputsOf f) 64 (omega (arith, c .before .before .before .get16 .ensures ∙ ap (λ (l : List ℕ). at16 l 0) (c .before .before .before .before .body .ensures), c .before .before .if1 .left)), lt-leb 1 (outputsOf f) (omega (arith, c .before .get162 .ensures ∙ ap (λ (l : List ℕ). at16 l 2) (c .before .before .before .before .body .ensures), c .if2 .taken)))
+    let f = c .before .before .before .before .before .before .args .file .now in
+    let inputs = c .before .before .before .get16 .ensures ∙ ap (λ (l : List ℕ). at16 l 0) (c .before .before .before .before .body .ensures) in
+    let outputs = c .before .get162 .ensures ∙ ap (λ (l : List ℕ). at16 l 2) (c .before .before .before .before .body .ensures) in
+    simp (le-leb (inputsOf f) 64 (omega (arith, inputs, c .before .before .if1 .left)), lt-leb 1 (outputsOf f) (omega (arith, outputs, c .if2 .taken)))
 
 returns-3 : tie.Need-returns-3
 unfolding rangesFit
 returns-3 c =
-    let f = now (c .before .before .before .before .before .before .args .file) in
-    let m : c .before .get162 .result ≡ outputsOf f = c .before .get162 .ensures ∙ ap (λ (l : List ℕ). at16 l 2) (c .before .before .before .before .body .ensures) in
-    simp (le-leb (inputsOf f) 64 (omega (arith, c .before .before .before .get16 .ensures ∙ ap (λ (l : List ℕ). at16 l 0) (c .before .before .before .before .body .ensures), c .before .before .if1 .left)), le-leb 1 (outputsOf f) (omega (arith, m, c .if2 .left))) (ap (λ (x : ℕ). leb x 64) m)
+    let f = c .before .before .before .before .before .before .args .file .now in
+    let inputs = c .before .before .before .get16 .ensures ∙ ap (λ (l : List ℕ). at16 l 0) (c .before .before .before .before .body .ensures) in
+    let outputs = c .before .get162 .ensures ∙ ap (λ (l : List ℕ). at16 l 2) (c .before .before .before .before .body .ensures) in
+    simp (le-leb (inputsOf f) 64 (omega (arith, inputs, c .before .before .if1 .left)), le-leb 1 (outputsOf f) (omega (arith, outputs, c .if2 .left))) (ap (λ (x : ℕ). leb x 64) outputs)
 
 pub ranges-fit-spec : {M : Type 1} → statement M
 ranges-fit-spec =

@@ -32,7 +32,10 @@ cast-if1 c = search needs
 
 returns : tie.Need-returns Inv-loop μ-loop
 unfolding outputFits
-returns c = sym (passed-fails _ (c .before .before .before .loop .inv) (c .before .before .loop-test .taken) (le-ltb (outputAt (c .before .before .before .before .before .args .outputs .now) (c .before .before .before .loop .k)) (c .before .before .before .before .before .args .nodes) (omega (arith, c .before .get16 .ensures, c .if1 .taken))))
+returns c =
+    let a = c .before .before .before .before .before .args in
+    let k = c .before .before .before .loop .k in
+    sym (passed-fails _ (c .before .before .before .loop .inv) (c .before .before .loop-test .taken) (le-ltb (outputAt (a .outputs .now) k) (a .nodes) (omega (arith, c .before .get16 .ensures, c .if1 .taken))))
 
 add-k : tie.Need-add-k Inv-loop μ-loop
 add-k c = search needs
@@ -42,7 +45,10 @@ loop-less c = search needs
 
 loop-again : tie.Need-loop-again Inv-loop μ-loop
 unfolding outputFits
-loop-again c = passed-next _ (c .before .before .before .loop .inv) (c .before .before .loop-test .taken) (lt-ltb (outputAt (c .before .before .before .before .before .args .outputs .now) (c .before .before .before .loop .k)) (c .before .before .before .before .before .args .nodes) (omega (arith, c .before .get16 .ensures, c .if1 .left)))
+loop-again c =
+    let a = c .before .before .before .before .before .args in
+    let k = c .before .before .before .loop .k in
+    passed-next _ (c .before .before .before .loop .inv) (c .before .before .loop-test .taken) (lt-ltb (outputAt (a .outputs .now) k) (a .nodes) (omega (arith, c .before .get16 .ensures, c .if1 .left)))
 
 returns-2 : tie.Need-returns-2 Inv-loop μ-loop
 returns-2 c = omega (arith, passed-all _ (c .before .loop .inv) (c .loop-test .left), c .before .loop .inv .within)

@@ -1,4 +1,6 @@
 use mathlib.Core.Path.{_≡_}
+use mathlib.Core.Bool.{Bool}
+use mathlib.Core.List.{List}
 use native.Mathlib.Omega.{arith}
 use Rattle.wire.specs.Checks.{lowest}
 use Prim.Native.Nat.{ℕ, _-_}
@@ -13,8 +15,12 @@ use Rattle.wire.proofs.bits.bits_fit.Tie as tie
 use Rattle.wire.proofs.bits.bits_fit.Reads as reads
 use Rattle.wire.proofs.bits.bits_fit.Lts as lts
 
+-- byte k is a bit
+abbrev test : List ℕ → ℕ → Bool
+test s k = ltb (bit s k) 2
+
 abbrev Inv-loop : tie.InvT-loop
-Inv-loop s count i₀ i = Passed (λ (k : ℕ). ltb (bit s k) 2) (length s) i
+Inv-loop s count i₀ i = Passed (test s) (length s) i
 
 abbrev μ-loop : tie.MeasureT-loop
 μ-loop s count i₀ i = length s - i
@@ -33,9 +39,9 @@ returns-2 : tie.Need-returns-2 Inv-loop μ-loop
 unfolding bitsFit
 returns-2 c =
     let s = c .before .before .before .before .before .args .s .now in
-    let i = c .before .before .before .loop .i in
-    let e = passed-fails (λ (k : ℕ). ltb (bit s k) 2) (c .before .before .before .loop .inv) (c .before .before .loop-test .taken) (le-ltb (bit s i) 2 (omega (arith, c .if2 .taken))) in
-    simp (eq-eqb _ _ (c .before .before .before .before .if1 .left), ne-eqb _ _ (λ (z : lowest (λ (k : ℕ). ltb (bit s k) 2) (length s) ≡ length s). absurd (omega (arith, e, z))))
+    let one = c .before .before .before in
+    let e = passed-fails (test s) (one .loop .inv) (c .before .before .loop-test .taken) (le-ltb (bit s (one .loop .i)) 2 (omega (arith, c .if2 .taken))) in
+    simp (eq-eqb _ _ (c .before .before .before .before .if1 .left), ne-eqb _ _ (λ (z : lowest (test s) (length s) ≡ length s). absurd (omega (arith, e, z))))
 
 add-i : tie.Need-add-i Inv-loop μ-loop
 add-i c = search needs
@@ -44,14 +50,17 @@ loop-less : tie.Need-loop-less Inv-loop μ-loop
 loop-less c = search needs
 
 loop-again : tie.Need-loop-again Inv-loop μ-loop
-loop-again c = passed-next (λ (k : ℕ). ltb (bit (c .before .before .before .before .before .args .s .now) k) 2) (c .before .before .before .loop .inv) (c .before .before .loop-test .taken) (lt-ltb (bit (c .before .before .before .before .before .args .s .now) (c .before .before .before .loop .i)) 2 (omega (arith, c .if2 .left)))
+loop-again c =
+    let s = c .before .before .before .before .before .args .s .now in
+    let one = c .before .before .before in
+    passed-next (test s) (one .loop .inv) (c .before .before .loop-test .taken) (lt-ltb (bit s (one .loop .i)) 2 (omega (arith, c .if2 .left)))
 
 returns-3 : tie.Need-returns-3 Inv-loop μ-loop
 unfolding bitsFit
 returns-3 c =
     let s = c .before .before .before .args .s .now in
-    let e = passed-all (λ (k : ℕ). ltb (bit s k) 2) (c .before .loop .inv) (c .loop-test .left) in
-    simp (eq-eqb _ _ (c .before .before .if1 .left), eq-eqb (lowest (λ (k : ℕ). ltb (bit s k) 2) (length s)) (length s) e)
+    let e = passed-all (test s) (c .before .loop .inv) (c .loop-test .left) in
+    simp (eq-eqb _ _ (c .before .before .if1 .left), eq-eqb (lowest (test s) (length s)) (length s) e)
 
 pub bits-fit-spec : {M : Type 1} → statement M
 bits-fit-spec =

@@ -46,7 +46,9 @@ cast-if2 : tie.Need-cast-if2 Inv-loop μ-loop
 cast-if2 c = search needs
 
 returns-2 : tie.Need-returns-2 Inv-loop μ-loop
-returns-2 c = sym (followed-other _ _ (c .before .before .before .before .before .before .loop .inv .0) (c .before .before .before .before .before .loop-test .taken) (sym (c .before .before .before .before .entry-tag .ensures) ∙ c .before .before .if1 .left) (λ e. c .if2 .taken (c .before .entry-start .ensures ∙ e)))
+returns-2 c =
+    let tag = sym (c .before .before .before .before .entry-tag .ensures) ∙ c .before .before .if1 .left in
+    sym (followed-other _ _ (c .before .before .before .before .before .before .loop .inv .0) (c .before .before .before .before .before .loop-test .taken) tag (λ e. c .if2 .taken (c .before .entry-start .ensures ∙ e)))
 
 entry-length-requires : tie.Need-entry-length-requires Inv-loop μ-loop
 entry-length-requires c κs = search needs
@@ -64,7 +66,10 @@ loop-less : tie.Need-loop-less Inv-loop μ-loop
 loop-less c = search needs
 
 loop-again : tie.Need-loop-again Inv-loop μ-loop
-loop-again c = (rw (c .entry-length .ensures) (followed-next _ _ (c .before .before .before .before .before .before .before .loop .inv .0) (c .before .before .before .before .before .before .loop-test .taken) (sym (c .before .before .before .before .before .entry-tag .ensures) ∙ c .before .before .before .if1 .left) (sym (c .before .before .entry-start .ensures) ∙ c .before .if2 .left)), omega arith)
+loop-again c =
+    let tag = sym (c .before .before .before .before .before .entry-tag .ensures) ∙ c .before .before .before .if1 .left in
+    let start = sym (c .before .before .entry-start .ensures) ∙ c .before .if2 .left in
+    (rw (c .entry-length .ensures) (followed-next _ _ (c .before .before .before .before .before .before .before .loop .inv .0) (c .before .before .before .before .before .before .loop-test .taken) tag start), omega arith)
 
 returns-3 : tie.Need-returns-3 Inv-loop μ-loop
 returns-3 c = sym (followed-end _ _ (c .before .loop .inv .0) (c .loop-test .left))
