@@ -49,9 +49,9 @@ good c = read (c .before .before .before .before .before .before .args .file .no
 ready : (c : lts.Else3 claims reads.Pre reads.Post) → Ready (c .before .before .before .before .before .before .before .before .before .before .before .before .args .file .now) (c .before .before .before .before .before .before .before .before .before .before .before .before .args .values .now) (c .before .before .before .before .before .before .before .before .before .before .before .before .args .inputs .now) (c .before .before .before .before .before .before .before .before .before .before .before .before .args .output) (good (c .before .before .before .before .before .before))
 ready c =
     record {
-      room = c .before .before .before .if1 .left;
+      room = omega (arith, c .before .before .before .if1 .left);
       bits = sym (c .before .before .bits-fit .ensures) ∙ not-false _ (c .before .if2 .left);
-      output = c .if3 .left;
+      output = omega (arith, c .if3 .left);
     }
 
 -- the node that was read from the output body is the output's
@@ -80,7 +80,7 @@ returns c =
 returns-2 : tie.Need-returns-2
 returns-2 c =
     let a = c .before .before .before .before .before .before .before .before .before .args in
-    let o = list-short (a .file .now) (a .values .now) (a .inputs .now) (a .output) (good (c .before .before .before)) (c .if1 .taken) in
+    let o = list-short (a .file .now) (a .values .now) (a .inputs .now) (a .output) (good (c .before .before .before)) (omega (arith, c .if1 .taken)) in
     (o .answer, o .values)
 
 bits-fit-requires : tie.Need-bits-fit-requires
@@ -97,7 +97,7 @@ returns-4 : tie.Need-returns-4
 returns-4 c =
     let a = c .before .before .before .before .before .before .before .before .before .before .before .before .args in
     let right = sym (c .before .before .bits-fit .ensures) ∙ not-false _ (c .before .if2 .left) in
-    let o = output-bad (a .file .now) (a .values .now) (a .inputs .now) (a .output) (good (c .before .before .before .before .before .before)) (c .before .before .before .if1 .left) right (c .if3 .taken) in
+    let o = output-bad (a .file .now) (a .values .now) (a .inputs .now) (a .output) (good (c .before .before .before .before .before .before)) (c .before .before .before .if1 .left) right (omega (arith, c .if3 .taken)) in
     (o .answer, o .values)
 
 node-body-requires : tie.Need-node-body-requires
