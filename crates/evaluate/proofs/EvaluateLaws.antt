@@ -5,26 +5,25 @@ use mathlib.Core.Path.{_≡_, refl, sym, ap, ap₂, _∙_}
 use mathlib.Core.Bool.{true, false}
 use mathlib.Core.List.{List, _++_}
 use lib.ListN.{length, getD, drop, List·getD-append}
-use lib.Dec.{leb, ltb}
+use lib.Dec.{leb}
 use borrow.Author.Tests.{le-leb, lt-leb, lt-ltb, le-ltb}
 use Rattle.wire.specs.Answers.{Answer, result, refused, refuse}
-use Rattle.wire.specs.Bits.{bit, Bits, bitsFit}
+use Rattle.wire.specs.Bits.{bit, bitsFit}
 use Rattle.wire.specs.Contents.{bodyOf}
 use Rattle.wire.specs.Lists.{tabulate}
-use Rattle.wire.specs.declared.refusals.Refusal.{Refusal}
 use Rattle.wire.specs.declared.refusals.Refusal.the-variants as cause
 use Rattle.wire.proofs.BitLaws.{bits-count, bits-are}
 use Rattle.program.specs.declared.node.Node.{Node}
 use Rattle.program.specs.declared.reader.Head.{Head}
 use Rattle.program.specs.Exprs.{ZERO, value}
 use Rattle.program.specs.Nodes.{nodeAt}
-use Rattle.program.specs.Programs.{Program, outputTree, outputValue, nodeValues}
+use Rattle.program.specs.Programs.{outputTree, outputValue, nodeValues}
 use Rattle.program.specs.Reading.{inputsOf, outputsOf, nodesOf, outputAt, programOf, readProgram}
-use Rattle.program.specs.Trees.{trees, TableOk}
-use Rattle.program.proofs.AcceptedLaws.{Accepted, Read, nodes-length, outputs-length, output-is, inputs-is, table-ok, outputs-ok}
+use Rattle.program.specs.Trees.{trees}
+use Rattle.program.proofs.AcceptedLaws.{Read, nodes-length, outputs-length, output-is, inputs-is, table-ok}
 use Rattle.program.proofs.ReadingLaws.{nodes-counted, outputs-long}
 use Rattle.program.proofs.ValueLaws.{values-length, values-at}
-use Rattle.evaluate.specs.Evaluating.{Found, evaluateProgram, evaluateFile, evaluateOf}
+use Rattle.evaluate.specs.Evaluating.{evaluateProgram, evaluateFile, evaluateOf}
 use Rattle.evaluate.specs.Filling.{nodesIn, Fillable}
 
 module _ (f list x : List ℕ) (k : ℕ) where

@@ -5,13 +5,13 @@ use mathlib.Core.Path.{_≡_, refl, sym, ap, ap₂, _∙_}
 use mathlib.Core.List.{List, [], _∷_, _++_}
 use lib.ListN.{length, getD, take, drop, set, length-set}
 use lib.Seq.{take-all, take-at, set-at, append-snoc, length-take-le, getD-take}
-use Rattle.wire.specs.Bits.{bit, Bits}
+use Rattle.wire.specs.Bits.{bit}
 use Rattle.wire.proofs.ListLaws.{drop-next, take-next, tabulate-length, tabulate-at}
 use Rattle.program.specs.declared.node.Node.{Node}
 use Rattle.program.specs.declared.node.Node.the-variants.{Zero, Input, Not, Xor, And}
 use Rattle.program.specs.Nodes.{nodeAt}
 use Rattle.program.specs.Programs.{nodeValue, nodeValues}
-use Rattle.program.specs.Trees.{NodeOk, TableOk}
+use Rattle.program.specs.Trees.{NodeOk}
 use Rattle.program.proofs.ValueLaws.{values-length, values-bits, value-next}
 use Rattle.evaluate.specs.Filling.{nodesIn, Valued, Fillable}
 

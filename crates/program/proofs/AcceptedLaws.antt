@@ -1,8 +1,8 @@
 -- What an accepted program file holds. Assumes nothing.
-use Prim.Native.Nat.{ℕ, _+_, _*_, _<_, _≤_}
+use Prim.Native.Nat.{ℕ, _<_, _≤_}
 use native.Mathlib.Omega.{arith}
 use mathlib.Core.Path.{_≡_, refl, sym, ap, _∙_}
-use mathlib.Core.Bool.{Bool, true, false, _&&_}
+use mathlib.Core.Bool.{Bool, true, _&&_}
 use mathlib.Core.List.{List}
 use lib.ListN.{length, getD}
 use lib.Dec.{leb}
@@ -10,7 +10,6 @@ use borrow.Author.Tests.{ltb-true, leb-true}
 use Rattle.wire.specs.Answers.{Answer, result, refuse, check, mapAnswer, numberOf, placeOf}
 use Rattle.wire.specs.Checks.{allBelow, lowest}
 use Rattle.wire.specs.Contents.{tableFits, entriesFit, bodyOf}
-use Rattle.wire.specs.Lists.{tabulate}
 use Rattle.wire.specs.declared.refusals.Refusal.{Refusal}
 use Rattle.wire.specs.declared.refusals.Refusal.the-variants as cause
 use Rattle.wire.proofs.AnswerLaws.{checked, checked-next, came, came-refused}
@@ -22,9 +21,9 @@ use Rattle.program.specs.declared.reader.ProgramRead.{ProgramRead}
 use Rattle.program.specs.declared.reader.ProgramRead.the-variants.{Good, Refused}
 use Rattle.program.specs.Nodes.{nodeAt, nodeFits}
 use Rattle.program.specs.Programs.{Program, headOf}
-use Rattle.program.specs.Layout.{Laid, Sized}
+use Rattle.program.specs.Layout.{Sized}
 use Rattle.program.specs.Reading.{tags, inputsOf, outputsOf, nodesOf, lengthsFit, rangesFit, outputAt, outputFits, programOf, readBodies, readProgram, programRead}
-use Rattle.program.specs.Trees.{trees, NodeOk, TableOk}
+use Rattle.program.specs.Trees.{trees, TableOk}
 use Rattle.program.specs.Exprs.{ZERO, InputsBelow}
 use Rattle.program.proofs.NodeLaws.{node-ok}
 use Rattle.program.proofs.ReadingLaws.{laid, sized}

@@ -1,8 +1,8 @@
 -- Laws of reading nodes. Assumes nothing.
-use Prim.Native.Nat.{ℕ, _+_, _*_, _<_, _≤_}
+use Prim.Native.Nat.{ℕ, _<_}
 use native.Mathlib.Omega.{arith}
-use mathlib.Core.Path.{_≡_, refl, sym, ap, _∙_}
-use mathlib.Core.Bool.{Bool, true, false, cond, _&&_, false≢true}
+use mathlib.Core.Path.{_≡_, sym, ap, _∙_}
+use mathlib.Core.Bool.{true, false, _&&_, false≢true}
 use mathlib.Core.List.{List}
 use lib.Dec.{eqb, leb, ltb}
 use borrow.Author.Tests.{lt-leb, ltb-true, eqb-false}
@@ -11,7 +11,6 @@ use Rattle.wire.specs.declared.refusals.Refusal.the-variants as cause
 use Rattle.wire.proofs.AnswerLaws.{checked}
 use Rattle.wire.proofs.CheckLaws.{by-test, both-first, both-second}
 use Rattle.program.specs.declared.node.Node.{Node}
-use Rattle.program.specs.declared.node.Node.the-variants.{Zero, One, Input, Not, Xor, And}
 use Rattle.program.specs.declared.node.NodeRead.{NodeRead}
 use Rattle.program.specs.declared.node.NodeRead.the-variants.{Good, Bad}
 use Rattle.program.specs.Nodes.{nodeOf, operandsFit, kindAt, zeroAt, aAt, bAt, nodeAt, nodeFits, readNode, nodeRead}

@@ -1,14 +1,14 @@
 -- Laws of reading a program file: what each test that held says. Assumes nothing.
-use Prim.Native.Nat.{ℕ, _+_, _*_, _/_, _%_, _<_, _≤_}
+use Prim.Native.Nat.{ℕ, _+_, _*_, _/_, _%_}
 use native.Mathlib.Omega.{arith}
 use mathlib.Core.Path.{_≡_, ap, ap₂, _∙_}
-use mathlib.Core.Bool.{Bool, true, false, _&&_}
+use mathlib.Core.Bool.{Bool, true, _&&_}
 use mathlib.Core.List.{List, [], _∷_}
 use lib.ListN.{length}
 use lib.Dec.{eqb, leb}
 use borrow.Author.Tests.{eqb-true, leb-true}
 use Rattle.wire.specs.Checks.{lowest}
-use Rattle.wire.specs.Contents.{tableLength, tableFits, entriesFit, entryStart, entryLength, bodyOf}
+use Rattle.wire.specs.Contents.{tableLength, tableFits, entriesFit, entryLength, bodyOf}
 use Rattle.wire.proofs.CheckLaws.{both-first, both-second}
 use Rattle.wire.proofs.ContentsLaws.{table-whole, body-length, entry-first, entries-end}
 use Rattle.wire.proofs.ListLaws.{tabulate-length}

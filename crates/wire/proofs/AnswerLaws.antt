@@ -1,8 +1,8 @@
 -- Laws of answers: what a chain of checks that ends in a result says of its tests. Assumes nothing.
 use Prim.Native.Nat.{ℕ}
 use native.Mathlib.Omega.{arith}
-use mathlib.Core.Path.{_≡_, refl, sym}
-use mathlib.Core.Bool.{Bool, true, false}
+use mathlib.Core.Path.{_≡_, refl}
+use mathlib.Core.Bool.{Bool, true}
 use Rattle.wire.specs.declared.refusals.Refusal.{Refusal}
 use Rattle.wire.specs.Answers.{Answer, result, refused, refuse, check, mapAnswer}
 use Rattle.wire.proofs.CheckLaws.{by-test}

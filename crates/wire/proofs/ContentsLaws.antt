@@ -1,15 +1,15 @@
 -- Laws of the table of contents. Assumes nothing.
-use Prim.Native.Nat.{ℕ, zero, suc, _+_, _*_, _-_, _<_, _≤_}
+use Prim.Native.Nat.{ℕ, suc, _+_, _*_, _<_, _≤_}
 use native.Mathlib.Omega.{arith}
 use native.Mathlib.Numerals.{towards-suc}
 use mathlib.Core.Path.{_≡_, refl, sym, ap, ap₂, _∙_}
 use mathlib.Core.Bool.{Bool, true, false, _&&_}
-use mathlib.Core.List.{List, [], _∷_, _++_, append-assoc}
-use lib.ListN.{length, getD, drop, take, length-take, length-drop}
-use lib.Seq.{drop-cons, drop-length, sets}
+use mathlib.Core.List.{List, [], _∷_, _++_}
+use lib.ListN.{length, getD, drop, length-take, length-drop}
+use lib.Seq.{drop-length, sets}
 use lib.Dec.{eqb, leb}
 use borrow.Author.Tests.{eqb-true, leb-true, eq-eqb, ne-eqb}
-use Rattle.wire.specs.Bytes.{at16, at32, bytes16, bytes32}
+use Rattle.wire.specs.Bytes.{at16, bytes16, bytes32}
 use Rattle.wire.specs.Contents.{tableLength, tableFits, entryTag, entryStart, entryLength, bodyOf, entriesFrom, entriesFit, entriesBytes, contentsBytes, total}
 use Rattle.wire.proofs.CheckLaws.{both-first, both-second}
 use Rattle.wire.proofs.ListLaws.{drop-next, sets-then}

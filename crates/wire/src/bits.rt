@@ -1,7 +1,6 @@
 // Bits kept in bytes: the inputs of a program, the lines of a circuit.
 ghost use mathlib.Core.Path.{_≡_};
 ghost use Prim.Native.Nat.{_*_, _<_};
-ghost use lib.ListN.{length};
 ghost use Rattle.wire.specs.Bits.{xorBit, bitsFit};
 
 // The XOR of two bits.

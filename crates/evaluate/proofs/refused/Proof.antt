@@ -1,8 +1,6 @@
 use borrow.Author.Needs.{needs}
 use Rattle.evaluate.proofs.refused.Statement.{statement}
 use Rattle.evaluate.proofs.refused.Tie as tie
-use Rattle.evaluate.proofs.refused.Reads as reads
-use Rattle.evaluate.proofs.refused.Lts as lts
 
 enum-known-answer : tie.Need-enum-known-answer
 enum-known-answer c = search needs

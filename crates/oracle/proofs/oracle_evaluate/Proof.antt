@@ -5,10 +5,6 @@ use Rattle.oracle.specs.Exported.{exported}
 use borrow.Author.Needs.{needs}
 use Rattle.oracle.proofs.oracle_evaluate.Statement.{statement}
 use Rattle.oracle.proofs.oracle_evaluate.Tie as tie
-use Rattle.oracle.proofs.oracle_evaluate.Reads as reads
-use Rattle.oracle.proofs.oracle_evaluate.Lts as lts
-use Rattle.evaluate.proofs.evaluate.Reads as evaluate-reads
-use Rattle.oracle.proofs.refusal.Reads as refusal-reads
 
 evaluate-requires : tie.Need-evaluate-requires
 evaluate-requires c κs = search needs

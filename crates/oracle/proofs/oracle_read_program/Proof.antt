@@ -11,10 +11,6 @@ use Rattle.oracle.specs.Exported.{exported}
 use borrow.Author.Needs.{needs}
 use Rattle.oracle.proofs.oracle_read_program.Statement.{statement}
 use Rattle.oracle.proofs.oracle_read_program.Tie as tie
-use Rattle.oracle.proofs.oracle_read_program.Reads as reads
-use Rattle.oracle.proofs.oracle_read_program.Lts as lts
-use Rattle.oracle.proofs.refusal.Reads as refusal-reads
-use Rattle.program.proofs.reader.read_program.Reads as read-program-reads
 
 abbrev count : Head → ℕ
 count head = head .nodes

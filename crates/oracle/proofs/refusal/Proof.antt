@@ -3,10 +3,6 @@ use mathlib.Core.Path.{ap₂}
 use borrow.Author.Needs.{needs}
 use Rattle.oracle.proofs.refusal.Statement.{statement}
 use Rattle.oracle.proofs.refusal.Tie as tie
-use Rattle.oracle.proofs.refusal.Reads as reads
-use Rattle.oracle.proofs.refusal.Lts as lts
-use Rattle.wire.proofs.refusals.Refusal.number.Reads as number-reads
-use Rattle.wire.proofs.refusals.Refusal.place.Reads as place-reads
 
 number-requires : tie.Need-number-requires
 number-requires c κs = search needs

@@ -10,10 +10,6 @@ use Rattle.program.specs.Programs.{nodeValue}
 use Rattle.evaluate.proofs.FillLaws.{Filled, filled-start, filled-valued, filled-next, filled-all}
 use Rattle.evaluate.proofs.values.fill_values.Statement.{statement}
 use Rattle.evaluate.proofs.values.fill_values.Tie as tie
-use Rattle.evaluate.proofs.values.fill_values.Reads as reads
-use Rattle.evaluate.proofs.values.fill_values.Lts as lts
-use Rattle.evaluate.proofs.values.node_value.Reads as node-value-reads
-use Rattle.program.proofs.node.node_at.Reads as node-at-reads
 
 abbrev Inv-loop : tie.InvT-loop
 Inv-loop nodes inputs values₀ i₀ values i = Filled nodes inputs values₀ values i

@@ -5,10 +5,6 @@ use Rattle.evaluate.proofs.FillLaws.{input-there, not-operand, xor-oper
 use borrow.Author.Needs.{needs}
 use Rattle.evaluate.proofs.values.node_value.Statement.{statement}
 use Rattle.evaluate.proofs.values.node_value.Tie as tie
-use Rattle.evaluate.proofs.values.node_value.Reads as reads
-use Rattle.evaluate.proofs.values.node_value.Lts as lts
-use Rattle.wire.proofs.bits.and_bits.Reads as and-bits-reads
-use Rattle.wire.proofs.bits.xor_bits.Reads as xor-bits-reads
 
 enum-told : tie.Need-enum-told
 enum-told c = search needs

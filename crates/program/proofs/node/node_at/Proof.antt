@@ -2,10 +2,6 @@ use Rattle.program.specs.Nodes.{nodeAt}
 use borrow.Author.Needs.{needs}
 use Rattle.program.proofs.node.node_at.Statement.{statement}
 use Rattle.program.proofs.node.node_at.Tie as tie
-use Rattle.program.proofs.node.node_at.Reads as reads
-use Rattle.program.proofs.node.node_at.Lts as lts
-use Rattle.program.proofs.node.node_of.Reads as node-of-reads
-use Rattle.wire.proofs.numbers.get16.Reads as get16-reads
 
 mul-at : tie.Need-mul-at
 mul-at c = search needs

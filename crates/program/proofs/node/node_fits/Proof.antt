@@ -2,11 +2,6 @@ use Rattle.program.specs.Nodes.{nodeFits}
 use borrow.Author.Needs.{needs}
 use Rattle.program.proofs.node.node_fits.Statement.{statement}
 use Rattle.program.proofs.node.node_fits.Tie as tie
-use Rattle.program.proofs.node.node_fits.Reads as reads
-use Rattle.program.proofs.node.node_fits.Lts as lts
-use Rattle.program.proofs.node.both.Reads as both-reads
-use Rattle.program.proofs.node.operands_fit.Reads as operands-fit-reads
-use Rattle.wire.proofs.numbers.get16.Reads as get16-reads
 
 mul-at : tie.Need-mul-at
 mul-at c = search needs

@@ -1,8 +1,6 @@
 use borrow.Author.Tests.{eq-eqb, ne-eqb}
 use Rattle.program.proofs.node.node_of.Statement.{statement}
 use Rattle.program.proofs.node.node_of.Tie as tie
-use Rattle.program.proofs.node.node_of.Reads as reads
-use Rattle.program.proofs.node.node_of.Lts as lts
 
 returns : tie.Need-returns
 returns c = simp (eq-eqb _ _ (c .if1 .taken))

@@ -3,9 +3,6 @@ use Rattle.program.specs.Nodes.{operandsFit}
 use borrow.Author.Needs.{needs}
 use Rattle.program.proofs.node.operands_fit.Statement.{statement}
 use Rattle.program.proofs.node.operands_fit.Tie as tie
-use Rattle.program.proofs.node.operands_fit.Reads as reads
-use Rattle.program.proofs.node.operands_fit.Lts as lts
-use Rattle.program.proofs.node.both.Reads as both-reads
 
 both-requires : tie.Need-both-requires
 both-requires c κs = search needs

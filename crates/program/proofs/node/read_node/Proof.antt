@@ -4,10 +4,6 @@ use Rattle.program.specs.Nodes.{readNode}
 use borrow.Author.Needs.{needs}
 use Rattle.program.proofs.node.read_node.Statement.{statement}
 use Rattle.program.proofs.node.read_node.Tie as tie
-use Rattle.program.proofs.node.read_node.Reads as reads
-use Rattle.program.proofs.node.read_node.Lts as lts
-use Rattle.program.proofs.node.node_at.Reads as node-at-reads
-use Rattle.program.proofs.node.node_fits.Reads as node-fits-reads
 
 node-fits-requires : tie.Need-node-fits-requires
 node-fits-requires c κs = search needs

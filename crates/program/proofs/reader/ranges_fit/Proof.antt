@@ -1,10 +1,10 @@
 use mathlib.Core.List.{List}
 use Rattle.wire.specs.Bytes.{at16}
 use native.Mathlib.Omega.{arith}
-use mathlib.Core.Path.{_≡_, sym, ap, _∙_}
+use mathlib.Core.Path.{ap, _∙_}
 use lib.ListN.{length}
 use denote.Ref.{now}
-use borrow.Author.Tests.{eq-eqb, ne-eqb, le-leb, lt-leb}
+use borrow.Author.Tests.{le-leb, lt-leb}
 use Prim.Native.Nat.{ℕ}
 use lib.Dec.{leb}
 use Rattle.program.specs.Reading.{inputsOf, outputsOf, rangesFit}
@@ -12,10 +12,6 @@ use Rattle.program.proofs.ReadingLaws.{head-long}
 use borrow.Author.Needs.{needs}
 use Rattle.program.proofs.reader.ranges_fit.Statement.{statement}
 use Rattle.program.proofs.reader.ranges_fit.Tie as tie
-use Rattle.program.proofs.reader.ranges_fit.Reads as reads
-use Rattle.program.proofs.reader.ranges_fit.Lts as lts
-use Rattle.wire.proofs.contents.body.Reads as body-reads
-use Rattle.wire.proofs.numbers.get16.Reads as get16-reads
 
 body-requires : tie.Need-body-requires
 body-requires c κs = search needs

@@ -8,9 +8,6 @@ use Rattle.program.specs.Nodes.{nodeFits}
 use Rattle.program.proofs.NodeLaws.{read-good, read-bad, read-index}
 use Rattle.program.proofs.reader.read_nodes.Statement.{statement}
 use Rattle.program.proofs.reader.read_nodes.Tie as tie
-use Rattle.program.proofs.reader.read_nodes.Reads as reads
-use Rattle.program.proofs.reader.read_nodes.Lts as lts
-use Rattle.program.proofs.node.read_node.Reads as read-node-reads
 
 abbrev Inv-loop : tie.InvT-loop
 Inv-loop nodes inputs i₀ i = Passed (nodeFits inputs nodes) (length nodes / 6) i

@@ -2,15 +2,12 @@ use native.Mathlib.Omega.{arith}
 use borrow.Author.Tests.{lt-ltb, le-ltb}
 use borrow.Author.Needs.{needs}
 use Prim.Native.Nat.{_-_, _/_}
-use mathlib.Core.Path.{sym, _∙_}
+use mathlib.Core.Path.{sym}
 use lib.ListN.{length}
 use Rattle.wire.proofs.CheckLaws.{Passed, passed-start, passed-next, passed-fails, passed-all}
 use Rattle.program.specs.Reading.{outputAt, outputFits}
 use Rattle.program.proofs.reader.read_outputs.Statement.{statement}
 use Rattle.program.proofs.reader.read_outputs.Tie as tie
-use Rattle.program.proofs.reader.read_outputs.Reads as reads
-use Rattle.program.proofs.reader.read_outputs.Lts as lts
-use Rattle.wire.proofs.numbers.get16.Reads as get16-reads
 
 abbrev Inv-loop : tie.InvT-loop
 Inv-loop outputs nodes k₀ k = Passed (outputFits nodes outputs) (length outputs / 2) k

@@ -3,8 +3,6 @@ use native.Mathlib.Omega.{arith}
 use native.Mathlib.Nat.{zero-mul, one-mul}
 use Rattle.wire.proofs.bits.and_bits.Statement.{statement}
 use Rattle.wire.proofs.bits.and_bits.Tie as tie
-use Rattle.wire.proofs.bits.and_bits.Reads as reads
-use Rattle.wire.proofs.bits.and_bits.Lts as lts
 
 returns : tie.Need-returns
 returns c = rw (c .if1 .taken) (sym (zero-mul _))

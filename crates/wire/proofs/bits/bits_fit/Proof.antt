@@ -12,8 +12,6 @@ use Rattle.wire.specs.Bits.{bit, bitsFit}
 use Rattle.wire.proofs.CheckLaws.{Passed, passed-start, passed-next, passed-fails, passed-all}
 use Rattle.wire.proofs.bits.bits_fit.Statement.{statement}
 use Rattle.wire.proofs.bits.bits_fit.Tie as tie
-use Rattle.wire.proofs.bits.bits_fit.Reads as reads
-use Rattle.wire.proofs.bits.bits_fit.Lts as lts
 
 -- byte k is a bit
 abbrev test : List ℕ → ℕ → Bool

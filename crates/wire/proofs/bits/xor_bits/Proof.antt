@@ -3,8 +3,6 @@ use Rattle.wire.specs.Bits.{xorBit}
 use borrow.Author.Needs.{needs}
 use Rattle.wire.proofs.bits.xor_bits.Statement.{statement}
 use Rattle.wire.proofs.bits.xor_bits.Tie as tie
-use Rattle.wire.proofs.bits.xor_bits.Reads as reads
-use Rattle.wire.proofs.bits.xor_bits.Lts as lts
 
 add-result : tie.Need-add-result
 add-result c = search needs

@@ -5,10 +5,6 @@ use lib.ListN.{take, drop}
 use borrow.Author.Needs.{needs}
 use Rattle.wire.proofs.contents.body.Statement.{statement}
 use Rattle.wire.proofs.contents.body.Tie as tie
-use Rattle.wire.proofs.contents.body.Reads as reads
-use Rattle.wire.proofs.contents.body.Lts as lts
-use Rattle.wire.proofs.contents.entry_length.Reads as entry-length-reads
-use Rattle.wire.proofs.contents.entry_start.Reads as entry-start-reads
 
 entry-start-requires : tie.Need-entry-start-requires
 entry-start-requires c κs = search needs

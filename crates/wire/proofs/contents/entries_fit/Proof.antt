@@ -1,16 +1,11 @@
 use mathlib.Core.Path.{sym, _∙_}
 use native.Mathlib.Omega.{arith}
-use Prim.Native.Nat.{ℕ, _+_, _-_, _≤_}
+use Prim.Native.Nat.{_+_, _-_, _≤_}
 use lib.ListN.{length}
 use borrow.Author.Needs.{needs}
 use Rattle.wire.proofs.ContentsLaws.{Followed, followed-start, followed-next, followed-tag, followed-other, followed-end}
 use Rattle.wire.proofs.contents.entries_fit.Statement.{statement}
 use Rattle.wire.proofs.contents.entries_fit.Tie as tie
-use Rattle.wire.proofs.contents.entries_fit.Reads as reads
-use Rattle.wire.proofs.contents.entries_fit.Lts as lts
-use Rattle.wire.proofs.contents.entry_length.Reads as entry-length-reads
-use Rattle.wire.proofs.contents.entry_start.Reads as entry-start-reads
-use Rattle.wire.proofs.contents.entry_tag.Reads as entry-tag-reads
 
 abbrev Inv-loop : tie.InvT-loop
 Inv-loop file tags start₀ i₀ start i = Followed tags file i start × (start ≤ 8589934592 + length file)

@@ -3,10 +3,6 @@ use Rattle.wire.proofs.ContentsLaws.{entry-stores}
 use borrow.Author.Needs.{needs}
 use Rattle.wire.proofs.contents.put_entry.Statement.{statement}
 use Rattle.wire.proofs.contents.put_entry.Tie as tie
-use Rattle.wire.proofs.contents.put_entry.Reads as reads
-use Rattle.wire.proofs.contents.put_entry.Lts as lts
-use Rattle.wire.proofs.numbers.put16.Reads as put16-reads
-use Rattle.wire.proofs.numbers.put32.Reads as put32-reads
 
 put16-requires : tie.Need-put16-requires
 put16-requires c κs = search needs

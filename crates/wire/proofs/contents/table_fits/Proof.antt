@@ -5,9 +5,6 @@ use Rattle.wire.specs.Contents.{tableFits}
 use borrow.Author.Needs.{needs}
 use Rattle.wire.proofs.contents.table_fits.Statement.{statement}
 use Rattle.wire.proofs.contents.table_fits.Tie as tie
-use Rattle.wire.proofs.contents.table_fits.Reads as reads
-use Rattle.wire.proofs.contents.table_fits.Lts as lts
-use Rattle.wire.proofs.numbers.get16.Reads as get16-reads
 
 returns : tie.Need-returns
 unfolding tableFits

@@ -6,10 +6,6 @@ use Prim.Native.Nat.{_-_}
 use lib.ListN.{length}
 use Rattle.wire.proofs.contents.write_contents.Statement.{statement}
 use Rattle.wire.proofs.contents.write_contents.Tie as tie
-use Rattle.wire.proofs.contents.write_contents.Reads as reads
-use Rattle.wire.proofs.contents.write_contents.Lts as lts
-use Rattle.wire.proofs.contents.put_entry.Reads as put-entry-reads
-use Rattle.wire.proofs.numbers.put16.Reads as put16-reads
 
 abbrev Inv-loop : tie.InvT-loop
 Inv-loop area₀ tags lengths start₀ i₀ area start i = Stored tags lengths area₀ area i start

@@ -4,8 +4,6 @@ use lib.ListN.{length-set}
 use borrow.Author.Needs.{needs}
 use Rattle.wire.proofs.numbers.put16.Statement.{statement}
 use Rattle.wire.proofs.numbers.put16.Tie as tie
-use Rattle.wire.proofs.numbers.put16.Reads as reads
-use Rattle.wire.proofs.numbers.put16.Lts as lts
 
 cast-s : tie.Need-cast-s
 cast-s c = search needs

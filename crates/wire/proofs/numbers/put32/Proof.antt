@@ -4,8 +4,6 @@ use lib.ListN.{length-set}
 use borrow.Author.Needs.{needs}
 use Rattle.wire.proofs.numbers.put32.Statement.{statement}
 use Rattle.wire.proofs.numbers.put32.Tie as tie
-use Rattle.wire.proofs.numbers.put32.Reads as reads
-use Rattle.wire.proofs.numbers.put32.Lts as lts
 
 cast-s : tie.Need-cast-s
 cast-s c = search needs
