@@ -19,6 +19,7 @@ pub struct OracleAnswer {
     pub value: u64,
 }
 
+// A refusal as its number and place.
 fn refusal(why: Refusal) -> OracleAnswer
     ensures { λ r. ⌜ r ≡ exported (refuse why) ⌝ }
 {

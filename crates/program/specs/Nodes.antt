@@ -12,7 +12,7 @@ use Rattle.program.specs.declared.node.Node.the-variants.{Zero, One, Inp
 use Rattle.program.specs.declared.node.NodeRead.{NodeRead}
 use Rattle.program.specs.declared.node.NodeRead.the-variants.{Good, Bad}
 
--- the node of a kind with these fields, where the fields are in order
+-- the node of a kind with these fields, once cause 5 has refused every kind above 5
 abbrev pub nodeOf : ℕ → ℕ → ℕ → Node
 nodeOf kind a b =
     cond (eqb kind 0) Zero

@@ -22,6 +22,7 @@ pub enum NodeRead {
     Bad(usize),
 }
 
+// The node of a kind with these fields. A kind above 5 does not come here: cause 5 refuses it.
 fn node_of(kind: u8, a: u16, b: u16) -> Node
     ensures { λ r. ⌜ r ≡ nodeOf kind a b ⌝ }
 {
@@ -49,6 +50,7 @@ pub fn node_at(body: &[u8], i: usize) -> Node
     node_of(body[at], get16(body, at + 2), get16(body, at + 4))
 }
 
+// Whether both hold.
 fn both(x: bool, y: bool) -> bool
     ensures { λ r. ⌜ r ≡ (x && y) ⌝ }
 {

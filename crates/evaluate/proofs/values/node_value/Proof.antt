@@ -40,16 +40,22 @@ cast-xor-bits-2 : tie.Need-cast-xor-bits-2
 cast-xor-bits-2 c = search needs
 
 shared-slice-read-xor-bits-2 : tie.Need-shared-slice-read-xor-bits-2
-shared-slice-read-xor-bits-2 c = xor-operands (c .before .before .before .before .before .before .pre) (c .before .before .node3 .given .1) .0 .there
+shared-slice-read-xor-bits-2 c =
+    let o = xor-operands (c .before .before .before .before .before .before .pre) (c .before .before .node3 .given .1) in
+    omega (arith, o .0 .there, o .1 .there)
 
 cast-xor-bits-3 : tie.Need-cast-xor-bits-3
 cast-xor-bits-3 c = search needs
 
 shared-slice-read-xor-bits-3 : tie.Need-shared-slice-read-xor-bits-3
-shared-slice-read-xor-bits-3 c = xor-operands (c .before .before .before .before .before .before .before .pre) (c .before .before .before .node3 .given .1) .1 .there
+shared-slice-read-xor-bits-3 c =
+    let o = xor-operands (c .before .before .before .before .before .before .before .pre) (c .before .before .before .node3 .given .1) in
+    omega (arith, o .0 .there, o .1 .there)
 
 xor-bits-requires-2 : tie.Need-xor-bits-requires-2
-xor-bits-requires-2 c κs = (xor-operands (c .before .before .before .before .before .before .before .pre) (c .before .before .before .node3 .given .1) .0 .is-bit, xor-operands (c .before .before .before .before .before .before .before .pre) (c .before .before .before .node3 .given .1) .1 .is-bit)
+xor-bits-requires-2 c κs =
+    let o = xor-operands (c .before .before .before .before .before .before .before .pre) (c .before .before .before .node3 .given .1) in
+    (omega (arith, o .0 .is-bit, o .1 .is-bit), omega (arith, o .0 .is-bit, o .1 .is-bit))
 
 enum-known-node-4 : tie.Need-enum-known-node-4
 enum-known-node-4 c = search needs
@@ -58,16 +64,22 @@ cast-and-bits : tie.Need-cast-and-bits
 cast-and-bits c = search needs
 
 shared-slice-read-and-bits : tie.Need-shared-slice-read-and-bits
-shared-slice-read-and-bits c = and-operands (c .before .before .before .before .before .before .pre) (c .before .before .node4 .given .1) .0 .there
+shared-slice-read-and-bits c =
+    let o = and-operands (c .before .before .before .before .before .before .pre) (c .before .before .node4 .given .1) in
+    omega (arith, o .0 .there, o .1 .there)
 
 cast-and-bits-2 : tie.Need-cast-and-bits-2
 cast-and-bits-2 c = search needs
 
 shared-slice-read-and-bits-2 : tie.Need-shared-slice-read-and-bits-2
-shared-slice-read-and-bits-2 c = and-operands (c .before .before .before .before .before .before .before .pre) (c .before .before .before .node4 .given .1) .1 .there
+shared-slice-read-and-bits-2 c =
+    let o = and-operands (c .before .before .before .before .before .before .before .pre) (c .before .before .before .node4 .given .1) in
+    omega (arith, o .0 .there, o .1 .there)
 
 and-bits-requires : tie.Need-and-bits-requires
-and-bits-requires c κs = (and-operands (c .before .before .before .before .before .before .before .pre) (c .before .before .before .node4 .given .1) .0 .is-bit, and-operands (c .before .before .before .before .before .before .before .pre) (c .before .before .before .node4 .given .1) .1 .is-bit)
+and-bits-requires c κs =
+    let o = and-operands (c .before .before .before .before .before .before .before .pre) (c .before .before .before .node4 .given .1) in
+    (omega (arith, o .0 .is-bit, o .1 .is-bit), omega (arith, o .0 .is-bit, o .1 .is-bit))
 
 returns : tie.Need-returns
 unfolding nodeValue
