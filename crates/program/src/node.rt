@@ -1,7 +1,7 @@
 // The nodes of a program: each is one of six things, and its operands are lower in the table.
+use wire::checks::both;
 use wire::numbers::get16;
 ghost use mathlib.Core.Path.{_≡_};
-ghost use mathlib.Core.Bool.{_&&_};
 ghost use Prim.Native.Nat.{_+_, _*_, _≤_};
 ghost use lib.ListN.{length};
 ghost use Rattle.program.specs.Nodes.{nodeOf, operandsFit, nodeAt, nodeFits, readNode, nodeRead};
@@ -48,13 +48,6 @@ pub fn node_at(body: &[u8], i: usize) -> Node
 {
     let at = 6 * i;
     node_of(body[at], get16(body, at + 2), get16(body, at + 4))
-}
-
-// Whether both hold.
-fn both(x: bool, y: bool) -> bool
-    ensures { λ r. ⌜ r ≡ (x && y) ⌝ }
-{
-    if x { y } else { false }
 }
 
 // Whether a and b are right for node i of this kind, where there are so many inputs.

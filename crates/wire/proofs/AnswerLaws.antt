@@ -1,10 +1,11 @@
 -- Laws of answers: what a chain of checks that ends in a result says of its tests. Assumes nothing.
 use Prim.Native.Nat.{ℕ}
 use native.Mathlib.Omega.{arith}
-use mathlib.Core.Path.{_≡_, refl}
+use mathlib.Core.Path.{_≡_, refl, _∙_}
+use mathlib.Core.Logic.{_≢_}
 use mathlib.Core.Bool.{Bool, true}
 use Rattle.wire.specs.declared.refusals.Refusal.{Refusal}
-use Rattle.wire.specs.Answers.{Answer, result, refused, refuse, check, mapAnswer}
+use Rattle.wire.specs.Answers.{Answer, result, refused, refuse, check, mapAnswer, andThen, numberOf}
 use Rattle.wire.proofs.CheckLaws.{by-test}
 
 module _ {A : Type 0} (a : A) (test : Bool) (why : Refusal) (next : Answer A) where
@@ -35,7 +36,36 @@ module _ {A B : Type 0} (g : A → B) where
   came-refused (result a) n p e = let z : _≡_ {A = ℕ} 0 1 = cc in absurd (omega arith)
   came-refused (refused m q) n p e = let k : m ≡ n = cc in let l : q ≡ p = cc in cc
 
+-- where what an answer leads to is a result, the answer was one
+pub record Led {A B : Type 0} (x : Answer A) (f : A → Answer B) (b : B) : Type 0 where
+  pub from : A
+  pub was : x ≡ result from
+  pub next : f from ≡ result b
+
+pub led : {A B : Type 0} (x : Answer A) (f : A → Answer B) (b : B) → andThen x f ≡ result b → Led x f b
+led (result a) f b e = record { from = a; was = refl; next = e }
+led (refused n p) f b e = let z : _≡_ {A = ℕ} 0 1 = cc in absurd (omega arith)
+
 -- values read one after the other
 pub mapped-twice : {A B C : Type 0} (g : A → B) (h : B → C) (x : Answer A) → mapAnswer h (mapAnswer g x) ≡ mapAnswer (λ a. h (g a)) x
 mapped-twice g h (result a) = refl
 mapped-twice g h (refused n p) = refl
+
+-- an answer that is never a refusal with number k
+abbrev pub Never : {A : Type 0} → ℕ → Answer A → Type 0
+Never k x = (n p : ℕ) → x ≡ refused n p → n ≢ k
+
+pub never-result : {A : Type 0} (k : ℕ) (a : A) → Never k (result a)
+never-result k a n p e = let z : _≡_ {A = ℕ} 0 1 = cc in absurd (omega arith)
+
+-- a check for another cause
+pub never-check : {A : Type 0} (k : ℕ) (test : Bool) (why : Refusal) (next : Answer A) → numberOf why ≢ k → Never k next → Never k (check test why next)
+never-check k test why next h never n p e =
+    by-test test
+    (λ t. never n p (simp t at e))
+    (λ t. let z : refuse why ≡ refused n p = simp t at e in λ q. h (let w : numberOf why ≡ n = cc in w ∙ q))
+
+-- what an answer leads to
+pub never-then : {A B : Type 0} (k : ℕ) (x : Answer A) (f : A → Answer B) → Never k x → ((a : A) → Never k (f a)) → Never k (andThen x f)
+never-then k (result a) f never next n p e = next a n p e
+never-then k (refused m q) f never next n p e = let z : m ≡ n = cc in λ w. never m q refl (z ∙ w)

@@ -7,10 +7,10 @@ use mathlib.Core.Bool.{true}
 use mathlib.Core.List.{List}
 use lib.ListN.{length, List·getD-eq-default}
 use lib.Dec.{eqb, ltb}
-use borrow.Author.Tests.{eqb-true, ltb-true, ltb-false, eqb-false}
+use borrow.Author.Tests.{eqb-true, ltb-true, ltb-false, eqb-false, eq-eqb, lt-ltb}
 use Rattle.wire.specs.Bits.{xorBit, bit, Bits, bitsFit}
 use Rattle.wire.specs.Checks.{allBelow}
-use Rattle.wire.proofs.CheckLaws.{by-test, both-first, both-second, all-below}
+use Rattle.wire.proofs.CheckLaws.{by-test, both-first, both-second, all-below, below-all}
 
 -- XOR and AND of bits are bits
 pub xor-bit : (a b : ℕ) → xorBit a b < 2
@@ -22,6 +22,11 @@ and-bit a b h g =
     by-test (eqb a 0)
     (λ e. let z : a ≡ 0 = eqb-true a 0 e in rw (z, zero-mul b) (omega arith))
     (λ e. let z : a ≡ 1 = omega (arith, eqb-false a 0 e) in rw (z, one-mul b) g)
+
+-- XORing the same in twice changes nothing
+pub xor-twice : (a b : ℕ) → a < 2 → xorBit (xorBit a b) b ≡ a
+unfolding xorBit
+xor-twice a b h = omega arith
 
 -- past the last bit there are zeros
 pub bit-below : (s : List ℕ) → Bits s → (i : ℕ) → bit s i < 2
@@ -40,3 +45,10 @@ unfolding bitsFit
 bits-are n s e i h =
     ltb-true (bit s i) 2
     (all-below (λ (k : ℕ). ltb (bit s k) 2) (length s) (both-second (eqb (length s) n) (allBelow (λ k. ltb (bit s k) 2) (length s)) e) i h)
+
+-- and n bits pass it
+pub bits-pass : (n : ℕ) (s : List ℕ) → length s ≡ n → Bits s → bitsFit n s ≡ true
+unfolding bitsFit
+bits-pass n s e b =
+    rw (eq-eqb (length s) n e)
+    (below-all (λ (k : ℕ). ltb (bit s k) 2) (length s) (λ i h. lt-ltb (bit s i) 2 (b i h)))

@@ -2,9 +2,10 @@
 use Prim.Native.Nat.{ℕ, zero, suc, _+_, _-_, _<_, _≤_}
 use native.Mathlib.Omega.{arith}
 use native.Mathlib.Nat.{add-zero}
+use native.Mathlib.Numerals.{add-one}
 use mathlib.Core.Path.{_≡_, refl, sym, ap, _∙_}
 use mathlib.Core.Bool.{Bool, true, false, _&&_, false≢true}
-use borrow.Author.Tests.{eqb-true}
+use borrow.Author.Tests.{eqb-true, eq-eqb}
 use Rattle.wire.specs.Checks.{lowestFrom, lowest, allBelow}
 
 -- where both hold, each holds
@@ -79,3 +80,11 @@ module _ (test : ℕ → Bool) where
   all-below k e j h =
       let n : j ≡ 0 + j = omega arith in
       rw n (lowest-at 0 k (omega (arith, eqb-true (lowest test k) k e)) j h)
+
+  passed-below : (k : ℕ) → ((j : ℕ) → j < k → test j ≡ true) → (i : ℕ) → i ≤ k → Passed test k i
+  passed-below k h zero l = passed-start k
+  passed-below k h (suc i) l = rw (← add-one i) (passed-next (passed-below k h i (omega arith)) (omega arith) (h i (omega arith)))
+
+  -- and where it holds at each, it fails at none
+  pub below-all : (k : ℕ) → ((j : ℕ) → j < k → test j ≡ true) → allBelow test k ≡ true
+  below-all k h = eq-eqb (lowest test k) k (passed-all (passed-below k h k (omega arith)) (omega arith))

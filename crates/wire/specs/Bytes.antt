@@ -1,7 +1,7 @@
 -- Numbers of 16 and 32 bits in a list of bytes, low byte first.
-use Prim.Native.Nat.{ℕ, _+_, _*_, _/_, _%_}
+use Prim.Native.Nat.{ℕ, _+_, _*_, _/_, _%_, _<_}
 use mathlib.Core.List.{List, [], _∷_}
-use lib.ListN.{getD}
+use lib.ListN.{length, getD}
 
 -- the 16-bit number whose first byte has index i
 abbrev pub at16 : List ℕ → ℕ → ℕ
@@ -18,3 +18,7 @@ bytes16 v = v % 256 ∷ v / 256 % 256 ∷ []
 -- the four bytes of a 32-bit number
 abbrev pub bytes32 : ℕ → List ℕ
 bytes32 v = v % 256 ∷ v / 256 % 256 ∷ v / 65536 % 256 ∷ v / 16777216 % 256 ∷ []
+
+-- every element is a byte
+abbrev pub Bytes : List ℕ → Type 0
+Bytes s = (i : ℕ) → i < length s → getD s i 0 < 256

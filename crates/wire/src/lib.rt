@@ -1,6 +1,7 @@
 // What every file and every service shares: numbers in bytes, the table of contents that opens a
-// file, bits kept in bytes, and the causes for which a service refuses.
+// file, bits kept in bytes, tests put together, and the causes for which a service refuses.
 pub mod bits;
+pub mod checks;
 pub mod contents;
 pub mod numbers;
 pub mod refusals;

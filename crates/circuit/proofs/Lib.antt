@@ -1,0 +1,6 @@
+pub mod AcceptedLaws
+pub mod FileLaws
+pub mod ReadingLaws
+pub mod RunLaws
+pub mod UndoLaws
+pub mod WriterLaws

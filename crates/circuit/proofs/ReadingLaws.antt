@@ -1,0 +1,138 @@
+-- Laws of reading a circuit file: what each test that held says. Assumes nothing.
+use Prim.Native.Nat.{ℕ, _+_, _/_, _%_, _≤_}
+use native.Mathlib.Omega.{arith}
+use mathlib.Core.Path.{_≡_, sym, ap, ap₂, _∙_}
+use mathlib.Core.Bool.{Bool, true, _&&_}
+use mathlib.Core.List.{List, [], _∷_}
+use lib.ListN.{length}
+use lib.Dec.{eqb, leb}
+use borrow.Author.Tests.{eqb-true, leb-true}
+use Rattle.wire.specs.Answers.{Answer, result, check}
+use Rattle.wire.specs.Checks.{lowest}
+use Rattle.wire.specs.Contents.{tableLength, tableFits, entriesFit, entryLength, bodyOf}
+use Rattle.wire.specs.declared.refusals.Refusal.the-variants as cause
+use Rattle.wire.proofs.AnswerLaws.{checked, checked-next}
+use Rattle.wire.proofs.CheckLaws.{both-first, both-second}
+use Rattle.wire.proofs.ContentsLaws.{table-whole, body-length, entry-first, entries-end}
+use Rattle.gate.specs.GateBytes.{gateFits}
+use Rattle.circuit.specs.declared.reader.CircuitHead.{CircuitHead}
+use Rattle.circuit.specs.Circuits.{headLines}
+use Rattle.circuit.specs.Format.{tags, headLength}
+use Rattle.circuit.specs.Layout.{Laid, Sized}
+use Rattle.circuit.specs.Reading.{inputsOf, outputsOf, workOf, gatesOf, lengthsFit, rangesFit, headIn, readHead}
+
+-- a file that passes cause 4
+pub record Ranged (f : List ℕ) : Type 0 where
+  pub inputs-most : inputsOf f ≤ 64
+  pub outputs-some : 1 ≤ outputsOf f
+  pub outputs-most : outputsOf f ≤ 64
+  pub work-most : workOf f ≤ 1024
+
+module _ (f : List ℕ) where
+  -- causes 1 and 2 passed
+  pub laid : tableFits 2 f ≡ true → entriesFit tags f ≡ true → Laid f
+  unfolding entriesFit
+  laid t e =
+      let a = entry-first 17 (18 ∷ []) 0 (tableLength 2) f e in
+      let b = entry-first 18 [] 1 (tableLength 2 + entryLength f 0) f (a .behind) in
+      let z = entries-end 2 (tableLength 2 + entryLength f 0 + entryLength f 1) f (b .behind) in
+      record {
+        whole = table-whole 2 f t;
+        first = a .starts;
+        second = omega (arith, a .starts, b .starts);
+        last = omega (arith, b .starts, z);
+      }
+
+  -- and cause 3
+  pub sized : Laid f → lengthsFit f ≡ true → Sized f
+  unfolding lengthsFit
+  sized l e =
+      let head : Bool = eqb (entryLength f 0) headLength in
+      let eights : Bool = eqb (entryLength f 1 % 8) 0 in
+      let most : Bool = leb (gatesOf f) 8000 in
+      let gates : (eights && most) ≡ true = both-second head (eights && most) e in
+      let rest : entryLength f 1 % 8 ≡ 0 = eqb-true (entryLength f 1 % 8) 0 (both-first eights most gates) in
+      record {
+        laid = l;
+        head = eqb-true (entryLength f 0) headLength (both-first head (eights && most) e);
+        eights = omega (arith, rest);
+        most = leb-true (gatesOf f) 8000 (both-second eights most gates);
+      }
+
+  -- and cause 4
+  pub ranged : rangesFit f ≡ true → Ranged f
+  unfolding rangesFit
+  ranged e =
+      let n : Bool = leb (inputsOf f) 64 in
+      let m₁ : Bool = leb 1 (outputsOf f) in
+      let m₂ : Bool = leb (outputsOf f) 64 in
+      let w : Bool = leb (workOf f) 1024 in
+      let rest : ((m₁ && m₂) && w) ≡ true = both-second n ((m₁ && m₂) && w) e in
+      let m : (m₁ && m₂) ≡ true = both-first (m₁ && m₂) w rest in
+      record {
+        inputs-most = leb-true (inputsOf f) 64 (both-first n ((m₁ && m₂) && w) e);
+        outputs-some = leb-true 1 (outputsOf f) (both-first m₁ m₂ m);
+        outputs-most = leb-true (outputsOf f) 64 (both-second m₁ m₂ m);
+        work-most = leb-true (workOf f) 1024 (both-second (m₁ && m₂) w rest);
+      }
+
+  module _ (l : Laid f) where
+    -- each body is as long as its entry says
+    pub head-long : length (bodyOf f 0) ≡ entryLength f 0
+    head-long = body-length f 0 (omega (arith, l .second, l .last))
+
+    pub gates-long : length (bodyOf f 1) ≡ entryLength f 1
+    gates-long = body-length f 1 (omega (arith, l .last))
+
+  -- a file whose head was read
+  pub record Headed (h : CircuitHead) : Type 0 where
+    pub table : tableFits 2 f ≡ true
+    pub entries : entriesFit tags f ≡ true
+    pub sized : Sized f
+    pub ranged : Ranged f
+    pub is : h ≡ headIn f
+
+  pub headed : (h : CircuitHead) → readHead f ≡ result h → Headed h
+  unfolding readHead
+  headed h e =
+      let ranges : Answer CircuitHead = check (rangesFit f) cause.Range (result (headIn f)) in
+      let lengths : Answer CircuitHead = check (lengthsFit f) cause.BodyLength ranges in
+      let entries : Answer CircuitHead = check (entriesFit tags f) cause.Contents lengths in
+      let e₂ : entries ≡ result h = checked-next h (tableFits 2 f) cause.Table entries e in
+      let e₃ : lengths ≡ result h = checked-next h (entriesFit tags f) cause.Contents lengths e₂ in
+      let e₄ : ranges ≡ result h = checked-next h (lengthsFit f) cause.BodyLength ranges e₃ in
+      let same : result (headIn f) ≡ result h = checked-next h (rangesFit f) cause.Range (result (headIn f)) e₄ in
+      let first : tableFits 2 f ≡ true = checked h (tableFits 2 f) cause.Table entries e in
+      let second : entriesFit tags f ≡ true = checked h (entriesFit tags f) cause.Contents lengths e₂ in
+      record {
+        table = first;
+        entries = second;
+        sized = sized (laid first second) (checked h (lengthsFit f) cause.BodyLength ranges e₃);
+        ranged = ranged (checked h (rangesFit f) cause.Range (result (headIn f)) e₄);
+        is = (cc);
+      }
+
+  module _ {h : CircuitHead} (a : Headed h) where
+    pub gates-counted : length (bodyOf f 1) / 8 ≡ h .gates
+    unfolding headIn
+    gates-counted =
+        omega (arith, gates-long (a .sized .laid), a .sized .eights, ap (λ (k : CircuitHead). k .gates) (a .is))
+
+    -- there are at most 64 + 64 + 1,024 lines
+    pub lines-most : headLines h ≤ 1152
+    unfolding headIn
+    lines-most =
+        omega (
+          arith,
+          ap headLines (a .is),
+          a .ranged .inputs-most,
+          a .ranged .outputs-most,
+          a .ranged .work-most,
+        )
+
+    -- the lowest gate that the reader of the gates finds is the file's
+    pub gates-lowest : {n : ℕ} {gates : List ℕ} → n ≡ headLines h → gates ≡ bodyOf f 1
+        → lowest (gateFits n gates) (length gates / 8) ≡ lowest (gateFits (headLines h) (bodyOf f 1)) (h .gates)
+    gates-lowest e g =
+        ap₂ (λ (m : ℕ) (b : List ℕ). lowest (gateFits m b) (length b / 8)) e g
+        ∙ ap (lowest (gateFits (headLines h) (bodyOf f 1))) gates-counted

@@ -1,0 +1,120 @@
+-- Laws of writing a circuit file into an area. Assumes nothing.
+use Prim.Native.Nat.{ℕ, _+_, _*_, _-_, _<_, _≤_}
+use native.Mathlib.Omega.{arith}
+use native.Mathlib.Nat.{zero-add}
+use mathlib.Core.Path.{_≡_, refl, sym, ap, _∙_}
+use mathlib.Core.List.{List, [], _∷_, _++_, append-assoc, append-nil}
+use lib.ListN.{length, set, drop, replicate, length-append, length-set, drop-of-length-le}
+use lib.Seq.{sets, length-sets, sets-eq}
+use borrow.Author.Fill.{fill-none, fill-more}
+use Rattle.wire.specs.Bytes.{bytes16}
+use Rattle.wire.specs.Contents.{contentsBytes, total, Writable}
+use Rattle.wire.proofs.ListLaws.{sets-append, sets-then}
+use Rattle.wire.proofs.WrittenLaws.{contents-length}
+use Rattle.gate.specs.declared.gates.Gate.{Gate}
+use Rattle.gate.specs.GateBytes.{gateBytes, gatesBytes}
+use Rattle.gate.proofs.ByteLaws.{gates-length, gates-append}
+use Rattle.circuit.specs.declared.reader.CircuitHead.{CircuitHead}
+use Rattle.circuit.specs.Circuits.{Circuit, headOf}
+use Rattle.circuit.specs.Format.{tags, headLength, firstGate, fileLength, headBytes, openingBytes, circuitFile, putGates, Small}
+
+-- the lengths of the two bodies
+abbrev lengths : CircuitHead → List ℕ
+lengths h = headLength ∷ 8 * h .gates ∷ []
+
+-- the table of contents of a circuit file can be written
+pub writable : (h : CircuitHead) (room : ℕ) → Small h → fileLength 0 ≤ room → Writable tags (lengths h) room
+unfolding total
+writable h room s r = record { paired = refl; few = omega arith; fits = omega arith; small = omega (arith, s .gates-small) }
+
+-- the stores of the table and of the head's numbers, one after the other, are one run
+pub opening-stores : (l : List ℕ) (h : CircuitHead) {l₁ l₂ l₃ l₄ : List ℕ}
+    → l₁ ≡ sets l 0 (contentsBytes tags (lengths h))
+    → l₂ ≡ sets l₁ 22 (bytes16 (h .inputs))
+    → l₃ ≡ sets l₂ 24 (bytes16 (h .outputs))
+    → l₄ ≡ sets l₃ 26 (bytes16 (h .work))
+    → l₄ ≡ sets l 0 (openingBytes h)
+unfolding openingBytes
+opening-stores l h e₁ e₂ e₃ e₄ =
+    let table : List ℕ = contentsBytes tags (lengths h) in
+    e₄
+    ∙ ap (λ (x : List ℕ). sets x 26 (bytes16 (h .work))) (e₃ ∙ ap (λ (x : List ℕ). sets x 24 (bytes16 (h .outputs))) (e₂ ∙ ap (λ (x : List ℕ). sets x 22 (bytes16 (h .inputs))) e₁))
+    ∙ sets-then l 0 22 table (headBytes h) (omega (arith, contents-length tags (lengths h) refl))
+
+module _ (area : List ℕ) where
+  pub put-length : (k : ℕ) (gs : List Gate) → length (putGates area k gs) ≡ length area
+  unfolding putGates
+  put-length k gs = length-sets area (fileLength k) (gatesBytes gs)
+
+  -- one gate is stored
+  pub put-one : (k : ℕ) (g : Gate) → sets area (fileLength k) (gateBytes g) ≡ putGates area k (g ∷ [])
+  unfolding putGates gatesBytes
+  put-one k g = ap (sets area (fileLength k)) (sym (append-nil (gateBytes g)))
+
+  -- no gate is stored
+  pub put-none : (k : ℕ) → putGates area k [] ≡ area
+  unfolding putGates gatesBytes
+  put-none k = refl
+
+  -- gates stored behind gates
+  pub put-append : (k : ℕ) (gs hs : List Gate) → putGates (putGates area k gs) (k + length gs) hs ≡ putGates area k (gs ++ hs)
+  unfolding putGates
+  put-append k gs hs =
+      sets-then area (fileLength k) (fileLength (k + length gs)) (gatesBytes gs) (gatesBytes hs) (omega (arith, gates-length gs))
+      ∙ ap (sets area (fileLength k)) (sym (gates-append gs hs))
+
+-- what stands before the first gate, and a whole file, are as long as the layout says
+pub opening-length : (h : CircuitHead) → length (openingBytes h) ≡ firstGate
+unfolding openingBytes
+opening-length h = omega (arith, length-append (contentsBytes tags (lengths h)) (headBytes h), contents-length tags (lengths h) refl)
+
+pub file-length : (c : Circuit) → length (circuitFile c) ≡ fileLength (length (c .gates))
+unfolding circuitFile
+file-length c =
+    omega (
+      arith,
+      length-append (openingBytes (headOf c)) (gatesBytes (c .gates)),
+      opening-length (headOf c),
+      gates-length (c .gates),
+    )
+
+-- the opening and then the gates are the file, and what was behind it stays
+pub file-written : (area : List ℕ) (c : Circuit) {area₁ area₂ : List ℕ}
+    → fileLength (length (c .gates)) ≤ length area
+    → area₁ ≡ sets area 0 (openingBytes (headOf c))
+    → area₂ ≡ putGates area₁ 0 (c .gates)
+    → area₂ ≡ circuitFile c ++ drop (length (circuitFile c)) area
+unfolding putGates circuitFile
+file-written area c room e₁ e₂ =
+    e₂
+    ∙ ap (λ (x : List ℕ). sets x (fileLength 0) (gatesBytes (c .gates))) e₁
+    ∙ sets-then area 0 (fileLength 0) (openingBytes (headOf c)) (gatesBytes (c .gates)) (omega (arith, opening-length (headOf c)))
+    ∙ sets-eq (circuitFile c) area 0 (omega (arith, file-length c))
+    ∙ ap (λ (n : ℕ). circuitFile c ++ drop n area) (zero-add (length (circuitFile c)))
+
+-- a loop has stored zero in the first i bytes
+pub record Cleared (area₀ area : List ℕ) (i : ℕ) : Type 0 where
+  pub within : i ≤ length area₀
+  pub same : length area ≡ length area₀
+  pub is : area ≡ replicate i 0 ++ drop i area₀
+
+module _ (area₀ : List ℕ) where
+  pub cleared-start : Cleared area₀ area₀ 0
+  cleared-start = record { within = omega arith; same = refl; is = fill-none area₀ 0 }
+
+  pub cleared-next : {area : List ℕ} {i : ℕ} → Cleared area₀ area i → i < length area → Cleared area₀ (set area i 0) (i + 1)
+  cleared-next {area} {i} p h =
+      let below : i < length area₀ = omega (arith, p .same) in
+      record {
+        within = omega arith;
+        same = length-set area i 0 ∙ p .same;
+        is = ap (λ (l : List ℕ). set l i 0) (p .is) ∙ fill-more i 0 area₀ below;
+      }
+
+  pub cleared-all : {area : List ℕ} {i : ℕ} → Cleared area₀ area i → length area ≤ i → area ≡ replicate (length area₀) 0
+  cleared-all {area} {i} p h =
+      let e : i ≡ length area₀ = omega (arith, p .within, p .same) in
+      p .is
+      ∙ ap (λ (n : ℕ). replicate n 0 ++ drop n area₀) e
+      ∙ ap (λ (l : List ℕ). replicate (length area₀) 0 ++ l) (drop-of-length-le area₀ {i = length area₀} (omega arith))
+      ∙ append-nil (replicate (length area₀) 0)

@@ -1,0 +1,69 @@
+use borrow.Author.Needs.{needs}
+use Rattle.circuit.proofs.reader.head_in.Statement.{statement}
+use Rattle.circuit.proofs.reader.head_in.Tie as tie
+use Rattle.circuit.proofs.reader.head_in.Reads as reads
+use Rattle.circuit.proofs.reader.head_in.Lts as lts
+use Rattle.wire.proofs.contents.body.Reads as body-reads
+use Rattle.wire.proofs.contents.entry_length.Reads as entry-length-reads
+use Rattle.wire.proofs.numbers.get16.Reads as get16-reads
+use Prim.Native.Nat.{ℕ}
+use mathlib.Core.Path.{_≡_, ap, _∙_}
+use mathlib.Core.List.{List}
+use native.Mathlib.Omega.{arith}
+use lib.ListN.{length}
+use Rattle.circuit.specs.Format.{headLength}
+use Rattle.circuit.specs.Reading.{headIn}
+use Rattle.circuit.proofs.ReadingLaws.{head-long}
+
+abbrev claims : lts.Claims
+claims = (body-reads.Asked, body-reads.Learnt, get16-reads.Asked, get16-reads.Learnt, entry-length-reads.Asked, entry-length-reads.Learnt)
+
+-- the head's body is as long as the layout asks for
+long : (c : lts.After-body claims reads.Pre reads.Post) → length (c .body .result .now) ≡ headLength
+long c = ap (λ (l : List ℕ). length l) (c .body .ensures) ∙ head-long (c .before .before .args .file .now) (c .before .before .pre .laid) ∙ c .before .before .pre .head
+
+body-requires : tie.Need-body-requires
+body-requires c κs = search needs
+
+get16-requires : tie.Need-get16-requires
+get16-requires c κs = omega (arith, long c)
+
+cast-t4 : tie.Need-cast-t4
+cast-t4 c = search needs
+
+get16-requires-2 : tie.Need-get16-requires-2
+get16-requires-2 c κs = omega (arith, long (c .before))
+
+cast-t6 : tie.Need-cast-t6
+cast-t6 c = search needs
+
+get16-requires-3 : tie.Need-get16-requires-3
+get16-requires-3 c κs = omega (arith, long (c .before .before))
+
+cast-t8 : tie.Need-cast-t8
+cast-t8 c = search needs
+
+entry-length-requires : tie.Need-entry-length-requires
+entry-length-requires c κs = search needs
+
+cast-t10 : tie.Need-cast-t10
+cast-t10 c = search needs
+
+returns : tie.Need-returns
+unfolding headIn
+returns c = rw (← c .before .before .before .before .body .ensures) (cc)
+
+pub head-in-spec : {M : Type 1} → statement M
+head-in-spec =
+    tie.close
+    (tie.spec
+    body-requires
+    get16-requires
+    cast-t4
+    get16-requires-2
+    cast-t6
+    get16-requires-3
+    cast-t8
+    entry-length-requires
+    cast-t10
+    returns)

@@ -1,0 +1,38 @@
+use borrow.Author.Needs.{needs}
+use Rattle.circuit.proofs.reader.lengths_fit.Statement.{statement}
+use Rattle.circuit.proofs.reader.lengths_fit.Tie as tie
+use Rattle.circuit.proofs.reader.lengths_fit.Reads as reads
+use Rattle.circuit.proofs.reader.lengths_fit.Lts as lts
+use Rattle.wire.proofs.checks.both.Reads as both-reads
+use Rattle.wire.proofs.contents.entry_length.Reads as entry-length-reads
+use Rattle.circuit.specs.Reading.{lengthsFit}
+
+entry-length-requires : tie.Need-entry-length-requires
+entry-length-requires c κs = search needs
+
+cast-head : tie.Need-cast-head
+cast-head c = search needs
+
+entry-length-requires-2 : tie.Need-entry-length-requires-2
+entry-length-requires-2 c κs = search needs
+
+both-requires : tie.Need-both-requires
+both-requires c κs = search needs
+
+both-requires-2 : tie.Need-both-requires-2
+both-requires-2 c κs = search needs
+
+returns : tie.Need-returns
+unfolding lengthsFit
+returns c = cc
+
+pub lengths-fit-spec : {M : Type 1} → statement M
+lengths-fit-spec =
+    tie.close
+    (tie.spec
+    entry-length-requires
+    cast-head
+    entry-length-requires-2
+    both-requires
+    both-requires-2
+    returns)

@@ -1,0 +1,35 @@
+-- What is proved of circuit files and of running them; the proofs are in proofs/.
+use Prim.Native.Nat.{ℕ}
+use mathlib.Core.Path.{_≡_}
+use mathlib.Core.List.{List}
+use Rattle.wire.specs.Answers.{result}
+use Rattle.wire.specs.Bytes.{Bytes}
+use Rattle.circuit.specs.Circuits.{Circuit, Legal}
+use Rattle.circuit.specs.Format.{circuitFile}
+use Rattle.circuit.specs.Reading.{readCircuit}
+use Rattle.circuit.specs.RunCircuit.{runForwards, runBackwards, linesAfter}
+
+-- reading what was written gives it back
+abbrev pub ReadsBack : Type 0
+ReadsBack = (c : Circuit) → Legal c → readCircuit (circuitFile c) ≡ result c
+
+-- a file is the writing of a circuit, and the circuit is legal
+pub record Writes (f : List ℕ) (c : Circuit) : Type 0 where
+  pub same : f ≡ circuitFile c
+  pub legal : Legal c
+
+-- an accepted file is the writing of what it gives
+abbrev pub OnlyWriting : Type 0
+OnlyWriting = (f : List ℕ) (c : Circuit) → Bytes f → readCircuit f ≡ result c → Writes f c
+
+-- two accepted files that give the same circuit are the same bytes
+abbrev pub SameBytes : Type 0
+SameBytes = (f g : List ℕ) (c : Circuit) → Bytes f → Bytes g → readCircuit f ≡ result c → readCircuit g ≡ result c → f ≡ g
+
+-- running an accepted file backwards undoes running it forwards
+abbrev pub BackwardsUndoesFile : Type 0
+BackwardsUndoesFile = (f s after : List ℕ) → runForwards f s ≡ result after → runBackwards f after ≡ result s
+
+-- running an accepted file forwards undoes running it backwards
+abbrev pub ForwardsUndoesFile : Type 0
+ForwardsUndoesFile = (f s after : List ℕ) → runBackwards f s ≡ result after → runForwards f after ≡ result s

@@ -1,0 +1,47 @@
+-- Undoing a circuit file except on chosen lines.
+use Prim.Native.Nat.{ℕ}
+use mathlib.Core.Bool.{Bool, cond}
+use mathlib.Core.List.{List, _++_}
+use lib.ListN.{length, drop, replicate}
+use lib.Dec.{eqb, leb}
+use Rattle.wire.specs.Answers.{Answer, result, refused, refuse, check, andThen, numberOf}
+use Rattle.wire.specs.Bits.{bit}
+use Rattle.wire.specs.declared.refusals.Refusal.the-variants as cause
+use Rattle.gate.specs.Gates.{WellFormed, All}
+use Rattle.gate.specs.Running.{undo}
+use Rattle.circuit.specs.declared.reader.CircuitHead.{CircuitHead}
+use Rattle.circuit.specs.declared.undoer.Undone.{Undone}
+use Rattle.circuit.specs.declared.undoer.Undone.the-variants.{Written, Refused}
+use Rattle.circuit.specs.Circuits.{Circuit, gatesIn}
+use Rattle.circuit.specs.Format.{circuitFile}
+use Rattle.circuit.specs.Reading.{readWithLines}
+
+-- line i is chosen: gates with this target are left out
+abbrev pub chosen : List ℕ → ℕ → Bool
+chosen choices i = eqb (bit choices i) 1
+
+-- the circuit that undoes c except on the chosen lines: the gates that remain, reversed, under the same head
+unfoldable pub undoCircuit : List ℕ → Circuit → Circuit
+undoCircuit choices c =
+    record { inputs = c .inputs; outputs = c .outputs; work = c .work; gates = undo (chosen choices) (c .gates) }
+
+-- undoing a file into an area of so many bytes
+unfoldable pub undoFile : List ℕ → List ℕ → ℕ → Answer Circuit
+undoFile file choices room =
+    andThen (readWithLines file choices) (λ c.
+    check (leb (length (circuitFile (undoCircuit choices c))) room) (cause.Room (length (undoCircuit choices c .gates)))  -- 11
+    (result (undoCircuit choices c)))
+
+-- a lent circuit area at exit: the file and, behind it, what was there; all zero on cause 11; on every other refusal as it was
+abbrev pub areaAfter : Answer Circuit → List ℕ → List ℕ
+areaAfter (result c) area = circuitFile c ++ drop (length (circuitFile c)) area
+areaAfter (refused n p) area = cond (eqb n (numberOf (cause.Room p))) (replicate (length area) 0) area
+
+-- the service's answer in 01's terms: the numbers of the circuit written, or a number and a place
+abbrev pub undone : Undone → Answer CircuitHead
+undone (Written head) = result head
+undone (Refused why) = refuse why
+
+-- a gate body whose gates are well formed on the lines that the choices are for
+abbrev pub Undoable : List ℕ → List ℕ → Type 0
+Undoable body choices = All (WellFormed (length choices)) (gatesIn body)

@@ -1,0 +1,152 @@
+// The reader of circuit files: causes 1 to 4 for the head, 12 for the gates, and 13 for bytes that
+// come with a file, one for each line.
+use crate::layout::HEAD_LENGTH;
+use gate::gates::GateRead;
+use gate::gates::read_gate;
+use wire::bits::bits_fit;
+use wire::checks::both;
+use wire::contents::body;
+use wire::contents::entries_fit;
+use wire::contents::entry_length;
+use wire::contents::table_fits;
+use wire::numbers::get16;
+use wire::refusals::Refusal;
+ghost use mathlib.Core.Path.{_≡_};
+ghost use Prim.Native.Nat.{_/_, _≤_};
+ghost use lib.ListN.{length};
+ghost use Rattle.wire.specs.Answers.{mapAnswer};
+ghost use Rattle.wire.specs.Checks.{lowest};
+ghost use Rattle.wire.specs.Contents.{bodyOf};
+ghost use Rattle.gate.specs.GateBytes.{gateFits};
+ghost use Rattle.circuit.specs.Circuits.{headOf, headLines};
+ghost use Rattle.circuit.specs.Layout.{Laid, Sized};
+ghost use Rattle.circuit.specs.Reading.{lengthsFit, rangesFit, headIn, readHead, readCircuit, readWithLines, circuitRead};
+
+// How many inputs, outputs, work lines and gates a circuit has.
+pub struct CircuitHead {
+    pub inputs: usize,
+    pub outputs: usize,
+    pub work: usize,
+    pub gates: usize,
+}
+
+// What reading a circuit file gives.
+pub enum CircuitRead {
+    Good(CircuitHead),
+    Refused(Refusal),
+}
+
+// How many lines a circuit has, where its numbers are in range.
+fn line_count(head: CircuitHead) -> usize
+    requires { ⌜ headLines head ≤ 1152 ⌝ }
+    ensures { λ r. ⌜ r ≡ headLines head ⌝ }
+{
+    head.inputs + head.outputs + head.work
+}
+
+// Whether the bodies have the lengths that their layout asks for.
+fn lengths_fit(file: &[u8]) -> bool
+    requires { ⌜ Laid (now file) ⌝ }
+    ensures { λ r. ⌜ r ≡ lengthsFit (now (file .entry)) ⌝ }
+{
+    let head = entry_length(file, 0) as usize == HEAD_LENGTH;
+    let gates = entry_length(file, 1);
+    both(head, both(gates % 8 == 0, gates / 8 <= 8000))
+}
+
+// Whether the numbers of inputs, outputs and work lines are in range.
+fn ranges_fit(file: &[u8]) -> bool
+    requires { ⌜ Sized (now file) ⌝ }
+    ensures { λ r. ⌜ r ≡ rangesFit (now (file .entry)) ⌝ }
+{
+    let head = body(file, 0);
+    let outputs = get16(head, 2);
+    let targets = both(1 <= outputs, outputs <= 64);
+    both(get16(head, 0) <= 64, both(targets, get16(head, 4) <= 1024))
+}
+
+// The numbers that the head and the length of the gate body give.
+fn head_in(file: &[u8]) -> CircuitHead
+    requires { ⌜ Sized (now file) ⌝ }
+    ensures { λ r. ⌜ r ≡ headIn (now (file .entry)) ⌝ }
+{
+    let head = body(file, 0);
+    CircuitHead {
+        inputs: get16(head, 0) as usize,
+        outputs: get16(head, 2) as usize,
+        work: get16(head, 4) as usize,
+        gates: entry_length(file, 1) as usize / 8,
+    }
+}
+
+// Reads the table of contents and the head, and does not look at the gates.
+pub fn read_head(file: &[u8]) -> CircuitRead
+    ensures { λ r. ⌜ circuitRead r ≡ readHead (now (file .entry)) ⌝ }
+{
+    if !table_fits(file, 2) {
+        return CircuitRead::Refused(Refusal::Table);
+    }
+    if !entries_fit(file, &[17, 18]) {
+        return CircuitRead::Refused(Refusal::Contents);
+    }
+    if !lengths_fit(file) {
+        return CircuitRead::Refused(Refusal::BodyLength);
+    }
+    if !ranges_fit(file) {
+        return CircuitRead::Refused(Refusal::Range);
+    }
+    CircuitRead::Good(head_in(file))
+}
+
+// The gate body of a file.
+pub fn gate_body(file: &[u8]) -> &[u8]
+    requires { ⌜ Laid (now file) ⌝ }
+    ensures { λ r. ⌜ now r ≡ bodyOf (now (file .entry)) 1 ⌝ }
+{
+    body(file, 1)
+}
+
+// The lowest index of a gate that is not in order on so many lines, or the number of gates.
+fn read_gates(gates: &[u8], lines: usize) -> usize
+    ensures { λ r. ⌜ r ≡ lowest (gateFits lines (now (gates .entry))) (length (now (gates .entry)) / 8) ⌝ }
+{
+    let mut i = 0;
+    while i < gates.len() / 8 {
+        let gate = read_gate(gates, i, lines);
+        if let GateRead::Bad(at) = gate {
+            return at;
+        }
+        i += 1;
+    }
+    i
+}
+
+// Reads a circuit file: how many inputs, outputs, work lines and gates it has, or the first cause
+// to refuse it.
+pub fn read_circuit(file: &[u8]) -> CircuitRead
+    ensures { λ r. ⌜ circuitRead r ≡ mapAnswer headOf (readCircuit (now (file .entry))) ⌝ }
+{
+    let answer = read_head(file);
+    let CircuitRead::Good(head) = answer else {
+        return answer;
+    };
+    let gate = read_gates(gate_body(file), line_count(head));
+    if gate != head.gates {
+        return CircuitRead::Refused(Refusal::Gate(gate as u64));
+    }
+    answer
+}
+
+// Reads a circuit file that comes with a byte, 0 or 1, for each of its lines.
+pub fn read_with_lines(file: &[u8], lines: &[u8]) -> CircuitRead
+    ensures { λ r. ⌜ circuitRead r ≡ mapAnswer headOf (readWithLines (now (file .entry)) (now (lines .entry))) ⌝ }
+{
+    let answer = read_circuit(file);
+    let CircuitRead::Good(head) = answer else {
+        return answer;
+    };
+    if !bits_fit(lines, line_count(head)) {
+        return CircuitRead::Refused(Refusal::LineBytes);
+    }
+    answer
+}

@@ -1,0 +1,117 @@
+// The service undo: the gates of a circuit file, reversed, without those whose target is chosen.
+use crate::layout::FIRST_GATE;
+use crate::reader::CircuitHead;
+use crate::reader::CircuitRead;
+use crate::reader::gate_body;
+use crate::reader::read_with_lines;
+use crate::writer::clear;
+use crate::writer::write_gate;
+use crate::writer::write_head;
+use gate::gates::Gate;
+use gate::gates::gate_at;
+use gate::gates::target_of;
+use wire::refusals::Refusal;
+ghost use mathlib.Core.Path.{_≡_};
+ghost use mathlib.Core.List.{_∷_, []};
+ghost use Prim.Native.Nat.{_+_, _<_, _≤_};
+ghost use lib.ListN.{length};
+ghost use Rattle.wire.specs.Answers.{mapAnswer};
+ghost use Rattle.gate.specs.Gates.{target};
+ghost use Rattle.gate.specs.Running.{without, undo};
+ghost use Rattle.circuit.specs.Circuits.{gatesIn, headOf};
+ghost use Rattle.circuit.specs.Format.{fileLength, putGates};
+ghost use Rattle.circuit.specs.UndoCircuit.{chosen, undoCircuit, undoFile, areaAfter, undone, Undoable};
+
+// What undoing a circuit answers: the numbers of the circuit written.
+pub enum Undone {
+    Written(CircuitHead),
+    Refused(Refusal),
+}
+
+// The reader's refusal, passed on.
+fn refused(answer: CircuitRead) -> Undone
+    ensures { λ r. ⌜ ((why : Refusal) → answer ≡ CircuitRead.Refused why → r ≡ Undone.Refused why) ⌝ }
+{
+    match answer {
+        CircuitRead::Refused(why) => Undone::Refused(why),
+        CircuitRead::Good(head) => Undone::Written(head),
+    }
+}
+
+// Whether the gate's target is chosen, so that the gate is left out.
+fn left_out(gate: Gate, choices: &[u8]) -> bool
+    requires { ⌜ target gate < length (now choices) ⌝ }
+    ensures { λ r. ⌜ r ≡ chosen (now (choices .entry)) (target gate) ⌝ }
+{
+    choices[target_of(gate) as usize] == 1
+}
+
+// How many gates of a gate body remain.
+fn count_kept(gates: &[u8], choices: &[u8]) -> usize
+    requires { ⌜ Undoable (now gates) (now choices) ⌝ }
+    ensures { λ r. ⌜ r ≡ length (without (chosen (now (choices .entry))) (gatesIn (now (gates .entry)))) ⌝ }
+{
+    let mut kept = 0;
+    let mut i = 0;
+    while i < gates.len() / 8 {
+        if !left_out(gate_at(gates, i), choices) {
+            kept += 1;
+        }
+        i += 1;
+    }
+    kept
+}
+
+// Stores a gate as gate k of the area, unless it is left out; how many gates are then stored.
+fn append_kept(area: &mut [u8], k: usize, gate: Gate, choices: &[u8]) -> usize
+    requires { ⌜ (fileLength (k + length (without (chosen (now choices)) (gate ∷ []))) ≤ length (now area)) × (target gate < length (now choices)) ⌝ }
+    ensures { λ r. ⌜ r ≡ k + length (without (chosen (now (choices .entry))) (gate ∷ [])) ⌝ }
+    ensures { λ _. ⌜ now (area .exit) ≡ putGates (now (area .entry)) k (without (chosen (now (choices .entry))) (gate ∷ [])) ⌝ }
+{
+    if left_out(gate, choices) {
+        return k;
+    }
+    write_gate(area, k, gate);
+    k + 1
+}
+
+// Stores the gates of a gate body that remain, last to first.
+fn write_undone(gates: &[u8], choices: &[u8], area: &mut [u8])
+    requires { ⌜ Undoable (now gates) (now choices) × (fileLength (length (undo (chosen (now choices)) (gatesIn (now gates)))) ≤ length (now area)) ⌝ }
+    ensures { λ _. ⌜ now (area .exit) ≡ putGates (now (area .entry)) 0 (undo (chosen (now (choices .entry))) (gatesIn (now (gates .entry)))) ⌝ }
+{
+    let mut k = 0;
+    let mut i = gates.len() / 8;
+    while 0 < i {
+        i -= 1;
+        k = append_kept(area, k, gate_at(gates, i), choices);
+    }
+}
+
+// Writes the circuit file that undoes a circuit file, except on the chosen lines. The area behind
+// the file is as it was; where there is no room for the file the whole area is zero, and on every
+// other refusal it is as it was.
+pub fn undo(file: &[u8], choices: &[u8], area: &mut [u8]) -> Undone
+    ensures { λ r. ⌜ undone r ≡ mapAnswer headOf (undoFile (now (file .entry)) (now (choices .entry)) (length (now (area .entry)))) ⌝ }
+    ensures { λ _. ⌜ now (area .exit) ≡ areaAfter (undoFile (now (file .entry)) (now (choices .entry)) (length (now (area .entry)))) (now (area .entry)) ⌝ }
+{
+    let answer = read_with_lines(file, choices);
+    let CircuitRead::Good(head) = answer else {
+        return refused(answer);
+    };
+    let gates = gate_body(file);
+    let kept = count_kept(gates, choices);
+    if area.len() < FIRST_GATE + 8 * kept {
+        clear(area);
+        return Undone::Refused(Refusal::Room(kept as u64));
+    }
+    let written = CircuitHead {
+        inputs: head.inputs,
+        outputs: head.outputs,
+        work: head.work,
+        gates: kept,
+    };
+    write_head(area, written);
+    write_undone(gates, choices, area);
+    Undone::Written(written)
+}

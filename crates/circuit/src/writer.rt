@@ -1,0 +1,46 @@
+// Writing a circuit file into a lent area: the head with its table of contents, and single gates.
+use crate::layout::FIRST_GATE;
+use crate::layout::HEAD_LENGTH;
+use crate::reader::CircuitHead;
+use gate::gates::Gate;
+use gate::gates::put_gate;
+use wire::contents::write_contents;
+use wire::numbers::put16;
+ghost use mathlib.Core.Path.{_≡_};
+ghost use mathlib.Core.List.{_∷_, []};
+ghost use Prim.Native.Nat.{_+_, _≤_};
+ghost use lib.ListN.{length, replicate};
+ghost use lib.Seq.{sets};
+ghost use Rattle.circuit.specs.Format.{openingBytes, putGates, fileLength, Small};
+
+// Stores everything of a circuit file that stands before its first gate.
+pub fn write_head(area: &mut [u8], head: CircuitHead)
+    requires { ⌜ Small head × (fileLength 0 ≤ length (now area)) ⌝ }
+    ensures { λ _. ⌜ now (area .exit) ≡ sets (now (area .entry)) 0 (openingBytes head) ⌝ }
+{
+    let lengths = [HEAD_LENGTH as u32, 8 * (head.gates as u32)];
+    write_contents(area, &[17, 18], &lengths);
+    let at = FIRST_GATE - HEAD_LENGTH;
+    put16(area, at, head.inputs as u16);
+    put16(area, at + 2, head.outputs as u16);
+    put16(area, at + 4, head.work as u16);
+}
+
+// Stores gate k of a circuit file.
+pub fn write_gate(area: &mut [u8], k: usize, gate: Gate)
+    requires { ⌜ fileLength (k + 1) ≤ length (now area) ⌝ }
+    ensures { λ _. ⌜ now (area .exit) ≡ putGates (now (area .entry)) k (gate ∷ []) ⌝ }
+{
+    put_gate(area, FIRST_GATE + 8 * k, gate);
+}
+
+// Stores zero in every byte.
+pub fn clear(area: &mut [u8])
+    ensures { λ _. ⌜ now (area .exit) ≡ replicate (length (now (area .entry))) 0 ⌝ }
+{
+    let mut i = 0;
+    while i < area.len() {
+        area[i] = 0;
+        i += 1;
+    }
+}

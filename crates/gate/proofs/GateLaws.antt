@@ -1,0 +1,45 @@
+-- Laws of reading gates. Assumes nothing.
+use Prim.Native.Nat.{ℕ}
+use native.Mathlib.Omega.{arith}
+use mathlib.Core.Path.{_≡_, sym, ap, _∙_}
+use mathlib.Core.Bool.{true, false}
+use mathlib.Core.List.{List}
+use lib.ListN.{getD}
+use Rattle.wire.specs.Answers.{result, refuse}
+use Rattle.wire.specs.Bytes.{at16}
+use Rattle.wire.specs.declared.refusals.Refusal.the-variants as cause
+use Rattle.wire.proofs.AnswerLaws.{checked}
+use Rattle.wire.proofs.CheckLaws.{by-test, both-second}
+use Rattle.gate.specs.declared.gates.Gate.{Gate}
+use Rattle.gate.specs.declared.gates.GateRead.{GateRead}
+use Rattle.gate.specs.declared.gates.GateRead.the-variants.{Good, Bad}
+use Rattle.gate.specs.Gates.{wellFormed, WellFormed}
+use Rattle.gate.specs.GateBytes.{fieldsFit, gateAt, gateFits, readGate, gateRead}
+use Prim.Native.Nat.{_+_, _*_}
+
+module _ (L : ℕ) (body : List ℕ) (i : ℕ) where
+  module _ {r : GateRead} (e : gateRead r ≡ readGate L body i) where
+    -- a gate that was read is in order
+    pub read-good : {g : Gate} → r ≡ Good g → gateFits L body i ≡ true
+    unfolding readGate
+    read-good {g} q = checked g (gateFits L body i) (cause.Gate i) (result (gateAt body i)) (sym e ∙ ap gateRead q)
+
+    -- a gate that was refused is not, and its index is reported
+    pub read-bad : {k : ℕ} → r ≡ Bad k → gateFits L body i ≡ false
+    unfolding readGate
+    read-bad {k} q =
+        by-test (gateFits L body i)
+        (λ t. let z : gateRead r ≡ result (gateAt body i) = simp t at e in let o : _≡_ {A = ℕ} 0 1 = cc (ap gateRead q) in absurd (omega arith))
+        (λ t. t)
+
+    pub read-index : {k : ℕ} → r ≡ Bad k → k ≡ i
+    unfolding readGate
+    read-index {k} q = let z : gateRead r ≡ refuse (cause.Gate i) = simp (read-bad q) at e in cc (ap gateRead q)
+
+  -- a gate that passes the test of cause 12 is well formed
+  pub fits-formed : gateFits L body i ≡ true → WellFormed L (gateAt body i)
+  unfolding gateFits
+  fits-formed e =
+      both-second
+      (fieldsFit (getD body (8 * i) 0) (getD body (8 * i + 1) 0) (at16 body (8 * i + 2)) (at16 body (8 * i + 4)))
+      (wellFormed L (gateAt body i)) e

@@ -1,0 +1,7 @@
+pub mod AllLaws
+pub mod ByteLaws
+pub mod GateLaws
+pub mod ReadBackLaws
+pub mod StepLaws
+pub mod UndoLaws
+pub mod WellFormedLaws

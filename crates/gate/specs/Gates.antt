@@ -1,0 +1,35 @@
+-- Gates and their lines.
+use Prim.Native.Nat.{ℕ}
+use mathlib.Core.Path.{_≡_}
+use mathlib.Core.Bool.{Bool, true, not, _&&_}
+use mathlib.Core.List.{List, [], _∷_}
+use lib.Dec.{eqb, ltb}
+use Rattle.gate.specs.declared.gates.Gate.{Gate}
+use Rattle.gate.specs.declared.gates.Gate.the-variants.{Not, Cnot, Toffoli}
+
+-- the line that a gate changes
+unfoldable pub target : Gate → ℕ
+target (Not t) = t
+target (Cnot a t) = t
+target (Toffoli a b t) = t
+
+-- P holds of each control of the gate
+abbrev pub Controls : (ℕ → Type 0) → Gate → Type 0
+Controls P (Not t) = Unit {0}
+Controls P (Cnot a t) = P a
+Controls P (Toffoli a b t) = P a × P b
+
+-- the gate's lines are below L and all different
+unfoldable pub wellFormed : ℕ → Gate → Bool
+wellFormed L (Not t) = ltb t L
+wellFormed L (Cnot a t) = (ltb a L && ltb t L) && not (eqb a t)
+wellFormed L (Toffoli a b t) = ((ltb a L && ltb b L) && ltb t L) && (not (eqb a b) && (not (eqb a t) && not (eqb b t)))
+
+-- a gate that is well formed on L lines
+abbrev pub WellFormed : ℕ → Gate → Type 0
+WellFormed L g = wellFormed L g ≡ true
+
+-- P holds of each gate
+abbrev pub All : (Gate → Type 0) → List Gate → Type 0
+All P [] = Unit {0}
+All P (g ∷ gs) = P g × All P gs

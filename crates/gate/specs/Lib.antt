@@ -1,0 +1,4 @@
+pub mod GateBytes
+pub mod Gates
+pub mod Running
+pub mod Theorems
