@@ -47,6 +47,47 @@ oracle_answer oracle_evaluate(const uint8_t *file, size_t file_length,
                               const uint8_t *inputs, size_t inputs_length,
                               uint64_t output);
 
+/* Reads and checks a circuit file.
+ *
+ * Result: value is the number of gates. Refusals: 1 to 4, 12. The file is only read.
+ */
+oracle_answer oracle_read_circuit(const uint8_t *file, size_t file_length);
+
+/* Runs a circuit file, the first gate first.
+ *
+ * lines   one byte, 0 or 1, for each line: inputs, then targets, then work lines. After a result
+ *         they are the lines after the run. After a refusal they are as they were.
+ *
+ * Result: value is 0. Refusals: 1 to 4, 12, 13. The file is only read.
+ */
+oracle_answer oracle_run_forwards(const uint8_t *file, size_t file_length,
+                                  uint8_t *lines, size_t lines_length);
+
+/* Runs a circuit file, the last gate first, which takes back a run forwards.
+ *
+ * lines   as in oracle_run_forwards.
+ *
+ * Result: value is 0. Refusals: 1 to 4, 12, 13. The file is only read.
+ */
+oracle_answer oracle_run_backwards(const uint8_t *file, size_t file_length,
+                                   uint8_t *lines, size_t lines_length);
+
+/* Writes the circuit file that undoes a circuit except on chosen lines: the gates whose target is
+ * not chosen, the last one first, under the same head.
+ *
+ * choices one byte for each line, 1 if it is chosen, else 0; only read.
+ * area    28 bytes, and 8 for each gate that remains, at least; the length of the file undone is
+ *         always enough. After a result the file written is at its start, and the bytes behind it
+ *         are as they were. After refusal 11 all of it is zero. After any other refusal it is as
+ *         it was.
+ *
+ * Result: value is the number of bytes written. Refusals: 1 to 4, 12, 13, and last of all 11, whose
+ * place is the number of gates that remain. The file undone is only read.
+ */
+oracle_answer oracle_undo(const uint8_t *file, size_t file_length,
+                          const uint8_t *choices, size_t choices_length,
+                          uint8_t *area, size_t area_length);
+
 #ifdef __cplusplus
 }
 #endif

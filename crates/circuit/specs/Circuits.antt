@@ -19,6 +19,10 @@ pub record Circuit : Type 0 where
 abbrev pub lineCount : Circuit → ℕ
 lineCount c = c .inputs + c .outputs + c .work
 
+-- how many gates a circuit has
+abbrev pub gateCount : Circuit → ℕ
+gateCount c = length (c .gates)
+
 -- how many inputs, outputs, work lines and gates a circuit has
 abbrev pub headOf : Circuit → CircuitHead
 headOf c = record { inputs = c .inputs; outputs = c .outputs; work = c .work; gates = length (c .gates) }

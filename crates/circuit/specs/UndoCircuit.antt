@@ -1,5 +1,5 @@
 -- Undoing a circuit file except on chosen lines.
-use Prim.Native.Nat.{ℕ}
+use Prim.Native.Nat.{ℕ, _+_, _*_, _<_, _≤_}
 use mathlib.Core.Bool.{Bool, cond}
 use mathlib.Core.List.{List, _++_}
 use lib.ListN.{length, drop, replicate}
@@ -7,7 +7,8 @@ use lib.Dec.{eqb, leb}
 use Rattle.wire.specs.Answers.{Answer, result, refused, refuse, check, andThen, numberOf}
 use Rattle.wire.specs.Bits.{bit}
 use Rattle.wire.specs.declared.refusals.Refusal.the-variants as cause
-use Rattle.gate.specs.Gates.{WellFormed, All}
+use Rattle.gate.specs.Gates.{target, WellFormed, All}
+use Rattle.gate.specs.GateBytes.{gateAt}
 use Rattle.gate.specs.Running.{undo}
 use Rattle.circuit.specs.declared.reader.CircuitHead.{CircuitHead}
 use Rattle.circuit.specs.declared.undoer.Undone.{Undone}
@@ -41,6 +42,11 @@ areaAfter (refused n p) area = cond (eqb n (numberOf (cause.Room p))) (replicate
 abbrev pub undone : Undone → Answer CircuitHead
 undone (Written head) = result head
 undone (Refused why) = refuse why
+
+-- gate i is there, and its target is one of the lines that the choices are for
+pub record Choosable (body : List ℕ) (i : ℕ) (choices : List ℕ) : Type 0 where
+  pub there : 8 * (i + 1) ≤ length body
+  pub line : target (gateAt body i) < length choices
 
 -- a gate body whose gates are well formed on the lines that the choices are for
 abbrev pub Undoable : List ℕ → List ℕ → Type 0

@@ -7,20 +7,20 @@ use crate::reader::read_with_lines;
 use crate::writer::clear;
 use crate::writer::write_gate;
 use crate::writer::write_head;
-use gate::gates::Gate;
 use gate::gates::gate_at;
-use gate::gates::target_of;
+use gate::gates::target_at;
 use wire::refusals::Refusal;
 ghost use mathlib.Core.Path.{_≡_};
 ghost use mathlib.Core.List.{_∷_, []};
-ghost use Prim.Native.Nat.{_+_, _<_, _≤_};
+ghost use Prim.Native.Nat.{_+_, _≤_};
 ghost use lib.ListN.{length};
 ghost use Rattle.wire.specs.Answers.{mapAnswer};
 ghost use Rattle.gate.specs.Gates.{target};
+ghost use Rattle.gate.specs.GateBytes.{gateAt};
 ghost use Rattle.gate.specs.Running.{without, undo};
 ghost use Rattle.circuit.specs.Circuits.{gatesIn, headOf};
 ghost use Rattle.circuit.specs.Format.{fileLength, putGates};
-ghost use Rattle.circuit.specs.UndoCircuit.{chosen, undoCircuit, undoFile, areaAfter, undone, Undoable};
+ghost use Rattle.circuit.specs.UndoCircuit.{chosen, undoCircuit, undoFile, areaAfter, undone, Choosable, Undoable};
 
 // What undoing a circuit answers: the numbers of the circuit written.
 pub enum Undone {
@@ -38,12 +38,12 @@ fn refused(answer: CircuitRead) -> Undone
     }
 }
 
-// Whether the gate's target is chosen, so that the gate is left out.
-fn left_out(gate: Gate, choices: &[u8]) -> bool
-    requires { ⌜ target gate < length (now choices) ⌝ }
-    ensures { λ r. ⌜ r ≡ chosen (now (choices .entry)) (target gate) ⌝ }
+// Whether the target of gate i is chosen, so that the gate is left out.
+fn left_out(gates: &[u8], i: usize, choices: &[u8]) -> bool
+    requires { ⌜ Choosable (now gates) i (now choices) ⌝ }
+    ensures { λ r. ⌜ r ≡ chosen (now (choices .entry)) (target (gateAt (now (gates .entry)) i)) ⌝ }
 {
-    choices[target_of(gate) as usize] == 1
+    choices[target_at(gates, i) as usize] == 1
 }
 
 // How many gates of a gate body remain.
@@ -54,7 +54,7 @@ fn count_kept(gates: &[u8], choices: &[u8]) -> usize
     let mut kept = 0;
     let mut i = 0;
     while i < gates.len() / 8 {
-        if !left_out(gate_at(gates, i), choices) {
+        if !left_out(gates, i, choices) {
             kept += 1;
         }
         i += 1;
@@ -62,16 +62,16 @@ fn count_kept(gates: &[u8], choices: &[u8]) -> usize
     kept
 }
 
-// Stores a gate as gate k of the area, unless it is left out; how many gates are then stored.
-fn append_kept(area: &mut [u8], k: usize, gate: Gate, choices: &[u8]) -> usize
-    requires { ⌜ (fileLength (k + length (without (chosen (now choices)) (gate ∷ []))) ≤ length (now area)) × (target gate < length (now choices)) ⌝ }
-    ensures { λ r. ⌜ r ≡ k + length (without (chosen (now (choices .entry))) (gate ∷ [])) ⌝ }
-    ensures { λ _. ⌜ now (area .exit) ≡ putGates (now (area .entry)) k (without (chosen (now (choices .entry))) (gate ∷ [])) ⌝ }
+// Stores gate i as gate k of the area, unless it is left out; how many gates are then stored.
+fn append_kept(area: &mut [u8], k: usize, gates: &[u8], i: usize, choices: &[u8]) -> usize
+    requires { ⌜ Choosable (now gates) i (now choices) × (fileLength (k + length (without (chosen (now choices)) (gateAt (now gates) i ∷ []))) ≤ length (now area)) ⌝ }
+    ensures { λ r. ⌜ r ≡ k + length (without (chosen (now (choices .entry))) (gateAt (now (gates .entry)) i ∷ [])) ⌝ }
+    ensures { λ _. ⌜ now (area .exit) ≡ putGates (now (area .entry)) k (without (chosen (now (choices .entry))) (gateAt (now (gates .entry)) i ∷ [])) ⌝ }
 {
-    if left_out(gate, choices) {
+    if left_out(gates, i, choices) {
         return k;
     }
-    write_gate(area, k, gate);
+    write_gate(area, k, gate_at(gates, i));
     k + 1
 }
 
@@ -84,7 +84,7 @@ fn write_undone(gates: &[u8], choices: &[u8], area: &mut [u8])
     let mut i = gates.len() / 8;
     while 0 < i {
         i -= 1;
-        k = append_kept(area, k, gate_at(gates, i), choices);
+        k = append_kept(area, k, gates, i, choices);
     }
 }
 

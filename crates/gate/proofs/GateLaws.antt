@@ -1,10 +1,11 @@
 -- Laws of reading gates. Assumes nothing.
-use Prim.Native.Nat.{ℕ}
+use Prim.Native.Nat.{ℕ, _+_, _*_}
 use native.Mathlib.Omega.{arith}
-use mathlib.Core.Path.{_≡_, sym, ap, _∙_}
+use mathlib.Core.Path.{_≡_, refl, sym, ap, _∙_}
 use mathlib.Core.Bool.{true, false}
 use mathlib.Core.List.{List}
 use lib.ListN.{getD}
+use lib.Dec.{eqb}
 use Rattle.wire.specs.Answers.{result, refuse}
 use Rattle.wire.specs.Bytes.{at16}
 use Rattle.wire.specs.declared.refusals.Refusal.the-variants as cause
@@ -13,9 +14,8 @@ use Rattle.wire.proofs.CheckLaws.{by-test, both-second}
 use Rattle.gate.specs.declared.gates.Gate.{Gate}
 use Rattle.gate.specs.declared.gates.GateRead.{GateRead}
 use Rattle.gate.specs.declared.gates.GateRead.the-variants.{Good, Bad}
-use Rattle.gate.specs.Gates.{wellFormed, WellFormed}
+use Rattle.gate.specs.Gates.{target, wellFormed, WellFormed}
 use Rattle.gate.specs.GateBytes.{fieldsFit, gateAt, gateFits, readGate, gateRead}
-use Prim.Native.Nat.{_+_, _*_}
 
 module _ (L : ℕ) (body : List ℕ) (i : ℕ) where
   module _ {r : GateRead} (e : gateRead r ≡ readGate L body i) where
@@ -43,3 +43,10 @@ module _ (L : ℕ) (body : List ℕ) (i : ℕ) where
       both-second
       (fieldsFit (getD body (8 * i) 0) (getD body (8 * i + 1) 0) (at16 body (8 * i + 2)) (at16 body (8 * i + 4)))
       (wellFormed L (gateAt body i)) e
+
+-- a gate's target stands in the same field, whatever its kind
+pub target-field : (body : List ℕ) (i : ℕ) → target (gateAt body i) ≡ at16 body (8 * i + 6)
+unfolding gateAt target
+target-field body i =
+    by-test (eqb (getD body (8 * i) 0) 1) (λ e. rw e refl)
+    (λ e. by-test (eqb (getD body (8 * i) 0) 2) (λ f. rw (e, f) refl) (λ f. rw (e, f) refl))

@@ -81,6 +81,14 @@ pub fn gate_at(body: &[u8], i: usize) -> Gate
     )
 }
 
+// The target of gate i of a gate body; the kind need not be looked at.
+pub fn target_at(body: &[u8], i: usize) -> u16
+    requires { ⌜ 8 * (i + 1) ≤ length (now body) ⌝ }
+    ensures { λ r. ⌜ r ≡ target (gateAt (now (body .entry)) i) ⌝ }
+{
+    get16(body, 8 * i + 6)
+}
+
 // Whether kind and zero byte are right, and the controls that the kind does not use are zero.
 fn fields_fit(kind: u8, zero: u8, first: u16, second: u16) -> bool
     ensures { λ r. ⌜ r ≡ fieldsFit kind zero first second ⌝ }

@@ -1,12 +1,26 @@
 // What loaders link: one exported C function for each service, with the service's parameters in
 // their order. A slice is a pointer and then a length.
+use circuit::layout::FIRST_GATE;
+use circuit::reader::CircuitRead;
+use circuit::reader::read_circuit;
+use circuit::runner::Ran;
+use circuit::runner::run_backwards;
+use circuit::runner::run_forwards;
+use circuit::undoer::Undone;
+use circuit::undoer::undo;
 use evaluate::Evaluated;
 use evaluate::evaluate;
 use program::reader::ProgramRead;
 use program::reader::read_program;
 use wire::refusals::Refusal;
 ghost use mathlib.Core.Path.{_≡_};
+ghost use lib.ListN.{length};
 ghost use Rattle.wire.specs.Answers.{refuse, mapAnswer};
+ghost use Rattle.circuit.specs.Circuits.{gateCount};
+ghost use Rattle.circuit.specs.Format.{circuitFile};
+ghost use Rattle.circuit.specs.Reading.{readCircuit};
+ghost use Rattle.circuit.specs.RunCircuit.{runForwards, runBackwards, linesAfter, done, ran};
+ghost use Rattle.circuit.specs.UndoCircuit.{undoFile, areaAfter};
 ghost use Rattle.program.specs.Programs.{nodeCount};
 ghost use Rattle.program.specs.Reading.{readProgram};
 ghost use Rattle.evaluate.specs.Evaluating.{evaluateOf};
@@ -60,5 +74,66 @@ pub extern "C" fn oracle_evaluate(
             value: bit as u64,
         },
         Evaluated::Refused(why) => refusal(why),
+    }
+}
+
+// Reads a circuit file; the value of a result is the number of gates.
+#[no_mangle]
+pub extern "C" fn oracle_read_circuit(file: &[u8]) -> OracleAnswer
+    ensures { λ r. ⌜ r ≡ exported (mapAnswer gateCount (readCircuit (now (file .entry)))) ⌝ }
+{
+    match read_circuit(file) {
+        CircuitRead::Good(head) => OracleAnswer {
+            number: 0,
+            value: head.gates as u64,
+        },
+        CircuitRead::Refused(why) => refusal(why),
+    }
+}
+
+// What a run answers; the value of a result is 0.
+fn run_answer(answer: Ran) -> OracleAnswer
+    ensures { λ r. ⌜ r ≡ exported (ran answer) ⌝ }
+{
+    match answer {
+        Ran::Done => OracleAnswer {
+            number: 0,
+            value: 0,
+        },
+        Ran::Refused(why) => refusal(why),
+    }
+}
+
+// Runs a circuit file on the lines, first gate first.
+#[no_mangle]
+pub extern "C" fn oracle_run_forwards(file: &[u8], lines: &mut [u8]) -> OracleAnswer
+    ensures { λ r. ⌜ r ≡ exported (done (runForwards (now (file .entry)) (now (lines .entry)))) ⌝ }
+    ensures { λ _. ⌜ now (lines .exit) ≡ linesAfter (runForwards (now (file .entry)) (now (lines .entry))) (now (lines .entry)) ⌝ }
+{
+    run_answer(run_forwards(file, lines))
+}
+
+// Runs a circuit file on the lines, last gate first.
+#[no_mangle]
+pub extern "C" fn oracle_run_backwards(file: &[u8], lines: &mut [u8]) -> OracleAnswer
+    ensures { λ r. ⌜ r ≡ exported (done (runBackwards (now (file .entry)) (now (lines .entry)))) ⌝ }
+    ensures { λ _. ⌜ now (lines .exit) ≡ linesAfter (runBackwards (now (file .entry)) (now (lines .entry))) (now (lines .entry)) ⌝ }
+{
+    run_answer(run_backwards(file, lines))
+}
+
+// Undoes a circuit file except on the chosen lines; the value of a result is the number of bytes
+// written.
+#[no_mangle]
+pub extern "C" fn oracle_undo(file: &[u8], choices: &[u8], area: &mut [u8]) -> OracleAnswer
+    ensures { λ r. ⌜ r ≡ exported (mapAnswer (λ c. length (circuitFile c)) (undoFile (now (file .entry)) (now (choices .entry)) (length (now (area .entry))))) ⌝ }
+    ensures { λ _. ⌜ now (area .exit) ≡ areaAfter (undoFile (now (file .entry)) (now (choices .entry)) (length (now (area .entry)))) (now (area .entry)) ⌝ }
+{
+    match undo(file, choices, area) {
+        Undone::Written(head) => OracleAnswer {
+            number: 0,
+            value: (FIRST_GATE + 8 * head.gates) as u64,
+        },
+        Undone::Refused(why) => refusal(why),
     }
 }

@@ -1,10 +1,14 @@
-//! Program files for the tests that hold `liboracle.a` against the model: written field by field,
-//! shaped at every limit of the format, or drawn at random, whole and damaged.
+//! Program and circuit files for the tests that hold `liboracle.a` against the model: written field
+//! by field, shaped at every limit of the formats, or drawn at random, whole and damaged.
 
+pub mod circuit;
+pub mod damage;
 pub mod layout;
+pub mod lent;
 pub mod program;
 pub mod random;
 pub mod shaped;
+pub mod shaped_circuit;
 pub mod tally;
 
 /// What both sides are brought to before they are compared: a result, or a refusal's number and

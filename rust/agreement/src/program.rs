@@ -1,6 +1,7 @@
 //! Program files: written from their fields, drawn at random, and damaged.
 
-use crate::layout::{Entry, Layout};
+use crate::damage;
+use crate::layout::Layout;
 use crate::random::Random;
 
 /// The fields of a node.
@@ -161,7 +162,7 @@ pub fn damaged(random: &mut Random) -> Vec<u8> {
     if random.once_in(4) {
         damage_fields(random, &mut program);
     }
-    match random.below(9) {
+    match random.below(10) {
         0 => {
             damage_fields(random, &mut program);
             program.bytes()
@@ -170,35 +171,14 @@ pub fn damaged(random: &mut Random) -> Vec<u8> {
             damage_node(random, &mut program);
             program.bytes()
         }
-        2 => with_table_damaged(random, program.layout()),
-        3 => with_bodies_resized(random, program.layout()),
-        4 => with_bodies_swapped(random, program.layout()),
-        5 => {
-            let mut file = program.bytes();
-            let reach = random.pick(&[36, file.len()]);
-            let at = random.below(reach);
-            file[at] ^= random.within(1..=255) as u8;
-            file
-        }
-        6 => {
-            let mut file = program.bytes();
-            let any = random.below(file.len());
-            let left = random.pick(&[any, any % 33, file.len() - 1]);
-            file.truncate(left);
-            file
-        }
-        7 => {
-            let added = random.within(1..=8);
-            [program.bytes(), random.bytes(added)].concat()
-        }
-        _ => {
-            let length = random.within(0..=100);
-            let mut file = random.bytes(length);
-            if length >= 2 && random.once_in(2) {
-                file[..2].copy_from_slice(&[3, 0]);
-            }
-            file
-        }
+        2 => damage::with_table_damaged(random, program.layout()),
+        3 => damage::with_bodies_resized(random, program.layout(), 6),
+        4 => damage::with_bodies_swapped(random, program.layout()),
+        5 => damage::with_a_byte_changed(random, program.bytes(), 36),
+        6 => damage::cut_short(random, program.bytes(), 32),
+        7 => damage::lengthened(random, program.bytes()),
+        8 => damage::with_sums_past_32_bits(random, program.layout()),
+        _ => damage::noise(random, 3),
     }
 }
 
@@ -245,70 +225,4 @@ fn damage_node(random: &mut Random, program: &mut Program) {
         2 => node.a = random.pick(&operands),
         _ => node.b = random.pick(&operands),
     }
-}
-
-fn with_table_damaged(random: &mut Random, mut layout: Layout) -> Vec<u8> {
-    if random.once_in(6) {
-        layout.entry_count = random.pick(&[0, 1, 2, 4, 259, 65535]);
-        return layout.bytes();
-    }
-    let i = random.below(3);
-    let entry = &mut layout.entries[i];
-    match random.below(3) {
-        0 => entry.tag = random.pick(&[0, 1, 2, 3, 4, 17, 18, 257, 65535]),
-        1 => entry.start = near(random, entry.start),
-        _ => entry.length = near(random, entry.length),
-    }
-    layout.bytes()
-}
-
-fn near(random: &mut Random, number: u32) -> u32 {
-    let step = random.within(1..=8) as u32;
-    let any = random.number() as u32;
-    random.pick(&[
-        number.wrapping_add(step),
-        number.wrapping_sub(step),
-        number ^ 0x8000_0000,
-        number | 0xffff_0000,
-        any,
-    ])
-}
-
-/// Makes a body longer or shorter, at its neighbour's cost or not, and fits the table to it.
-fn with_bodies_resized(random: &mut Random, mut layout: Layout) -> Vec<u8> {
-    let i = random.below(3);
-    let step = random.pick(&[1, 2, 3, 6, 12]);
-    let length = layout.bodies[i].len();
-    match random.below(3) {
-        0 => layout.bodies[i].truncate(length.saturating_sub(step)),
-        1 => layout.bodies[i].resize(length + step, 0),
-        _ => {
-            let moved = layout.bodies[i].split_off(length.saturating_sub(step));
-            let next = &mut layout.bodies[(i + 1) % 3];
-            *next = [moved, next.clone()].concat();
-        }
-    }
-    layout.fitted().bytes()
-}
-
-/// Swaps two bodies, with the table as it was, fitted, or swapped as well.
-fn with_bodies_swapped(random: &mut Random, mut layout: Layout) -> Vec<u8> {
-    let (i, j) = random.pick(&[(0, 1), (1, 2), (0, 2)]);
-    layout.bodies.swap(i, j);
-    match random.below(4) {
-        0 => layout,
-        1 => layout.fitted(),
-        2 => {
-            layout.entries.swap(i, j);
-            layout.fitted()
-        }
-        _ => {
-            // Each entry under its own tag points to where its body now is.
-            layout.entries.swap(i, j);
-            let mut layout = layout.fitted();
-            layout.entries.sort_by_key(|entry: &Entry| entry.tag);
-            layout
-        }
-    }
-    .bytes()
 }

@@ -5,7 +5,7 @@ use crate::layout::{Entry, Layout};
 use crate::program::{and, input, node, not, xor, Node, Program, ONE, ZERO};
 use crate::Outcome;
 
-/// A named file and its outcome: the number of nodes, or a refusal's number and place.
+/// A named file and its outcome: the number of nodes or gates, or a refusal's number and place.
 pub struct Shaped {
     /// What the file shows.
     pub name: String,
@@ -39,11 +39,11 @@ pub fn all() -> Vec<Shaped> {
     groups.into_iter().flatten().collect()
 }
 
-fn accepted(name: &str, file: Vec<u8>, nodes: u64) -> Shaped {
-    Shaped { name: name.to_string(), file, expected: Ok(nodes) }
+pub(crate) fn accepted(name: &str, file: Vec<u8>, count: u64) -> Shaped {
+    Shaped { name: name.to_string(), file, expected: Ok(count) }
 }
 
-fn refused(name: &str, file: Vec<u8>, number: u64, place: u64) -> Shaped {
+pub(crate) fn refused(name: &str, file: Vec<u8>, number: u64, place: u64) -> Shaped {
     Shaped { name: name.to_string(), file, expected: Err((number, place)) }
 }
 

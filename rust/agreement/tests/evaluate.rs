@@ -1,12 +1,10 @@
 //! evaluate: the archive beside the model, the value list before and after included.
 
+use agreement::lent::lent;
 use agreement::program::{and, input, not, xor, Program, ONE, ZERO};
 use agreement::random::Random;
 use agreement::tally::Tally;
 use agreement::{hex, program, shaped, Outcome};
-
-/// Bytes on either side of the lent value list, which no call may reach.
-const MARGIN: usize = 16;
 
 /// What one call is given.
 struct Case {
@@ -20,17 +18,10 @@ struct Case {
 type Evaluated = (Outcome<bool>, Vec<u8>);
 
 fn archive(case: &Case) -> Evaluated {
-    let margin = [0xa5; MARGIN];
-    let mut memory = [&margin, &case.values[..], &margin].concat();
-    let values = &mut memory[MARGIN..MARGIN + case.values.len()];
-    let outcome = oracle::evaluate(&case.file, values, &case.inputs, case.output)
-        .map_err(|refusal| (refusal.number, refusal.place));
-
-    let after = memory.split_off(MARGIN + case.values.len());
-    assert_eq!(after, margin, "written past the value list");
-    let values = memory.split_off(MARGIN);
-    assert_eq!(memory, margin, "written before the value list");
-    (outcome, values)
+    lent(&case.values, |values| {
+        oracle::evaluate(&case.file, values, &case.inputs, case.output)
+            .map_err(|refusal| (refusal.number, refusal.place))
+    })
 }
 
 fn model(case: &Case) -> Evaluated {

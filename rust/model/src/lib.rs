@@ -1,9 +1,12 @@
 //! A second reading of document 01, in plain Rust and without the compiler's code: the services
 //! are held against it. Each check stands in the order of the table of causes.
 
+pub mod circuit;
 mod contents;
 pub mod evaluate;
 pub mod program;
+pub mod run;
+pub mod undo;
 
 /// A cause's number, and its place where the table of causes gives one.
 #[derive(Debug, Clone, Copy, PartialEq, Eq)]

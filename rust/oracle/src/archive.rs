@@ -27,6 +27,31 @@ mod c {
             inputs_len: usize,
             output: u64,
         ) -> Answer;
+
+        pub fn oracle_read_circuit(file: *const u8, file_len: usize) -> Answer;
+
+        pub fn oracle_run_forwards(
+            file: *const u8,
+            file_len: usize,
+            lines: *mut u8,
+            lines_len: usize,
+        ) -> Answer;
+
+        pub fn oracle_run_backwards(
+            file: *const u8,
+            file_len: usize,
+            lines: *mut u8,
+            lines_len: usize,
+        ) -> Answer;
+
+        pub fn oracle_undo(
+            file: *const u8,
+            file_len: usize,
+            choices: *const u8,
+            choices_len: usize,
+            area: *mut u8,
+            area_len: usize,
+        ) -> Answer;
     }
 }
 
@@ -54,6 +79,35 @@ pub fn evaluate(file: &[u8], values: &mut [u8], inputs: &[u8], output: u64) -> A
     }
 }
 
+pub fn read_circuit(file: &[u8]) -> Answer {
+    // SAFETY: see above.
+    unsafe { c::oracle_read_circuit(file.as_ptr(), file.len()) }
+}
+
+pub fn run_forwards(file: &[u8], lines: &mut [u8]) -> Answer {
+    // SAFETY: see above.
+    unsafe { c::oracle_run_forwards(file.as_ptr(), file.len(), lines.as_mut_ptr(), lines.len()) }
+}
+
+pub fn run_backwards(file: &[u8], lines: &mut [u8]) -> Answer {
+    // SAFETY: see above.
+    unsafe { c::oracle_run_backwards(file.as_ptr(), file.len(), lines.as_mut_ptr(), lines.len()) }
+}
+
+pub fn undo(file: &[u8], choices: &[u8], area: &mut [u8]) -> Answer {
+    // SAFETY: see above.
+    unsafe {
+        c::oracle_undo(
+            file.as_ptr(),
+            file.len(),
+            choices.as_ptr(),
+            choices.len(),
+            area.as_mut_ptr(),
+            area.len(),
+        )
+    }
+}
+
 #[cfg(test)]
 mod tests {
     use super::*;
@@ -62,6 +116,12 @@ mod tests {
     const AND: [u8; 56] = [
         3, 0, 1, 0, 32, 0, 0, 0, 4, 0, 0, 0, 2, 0, 36, 0, 0, 0, 18, 0, 0, 0, 3, 0, 54, 0, 0, 0, 2,
         0, 0, 0, 2, 0, 1, 0, 2, 0, 0, 0, 0, 0, 2, 0, 1, 0, 0, 0, 5, 0, 0, 0, 1, 0, 2, 0,
+    ];
+
+    /// n = 1, m = 1, w = 1; gates N 0, C 0 1, T 0 1 2.
+    const CIRCUIT: [u8; 52] = [
+        2, 0, 17, 0, 22, 0, 0, 0, 6, 0, 0, 0, 18, 0, 28, 0, 0, 0, 24, 0, 0, 0, 1, 0, 1, 0, 1, 0, 1,
+        0, 0, 0, 0, 0, 0, 0, 2, 0, 0, 0, 0, 0, 1, 0, 3, 0, 0, 0, 1, 0, 2, 0,
     ];
 
     fn answer(number: u64, value: u64) -> Answer {
@@ -82,5 +142,44 @@ mod tests {
             assert_eq!(evaluate(&AND, &mut values, &inputs, 0), answer(0, bit));
         }
         assert_eq!(evaluate(&AND, &mut [7; 2], &[1, 1], 0), answer(7, 0));
+    }
+
+    #[test]
+    fn the_answer_to_a_circuit_is_its_number_of_gates() {
+        assert_eq!(read_circuit(&CIRCUIT), answer(0, 3));
+        assert_eq!(read_circuit(&[]), answer(1, 0));
+
+        let mut bad_gate = CIRCUIT;
+        bad_gate[44] = 4;
+        assert_eq!(read_circuit(&bad_gate), answer(12, 2));
+    }
+
+    // The wrapper drops the value, so only here can another one than 0 be seen.
+    #[test]
+    fn the_answer_to_a_run_is_0() {
+        let mut lines = [0, 0, 0];
+        assert_eq!(run_forwards(&CIRCUIT, &mut lines), answer(0, 0));
+        assert_eq!(lines, [1, 1, 1]);
+        assert_eq!(run_backwards(&CIRCUIT, &mut lines), answer(0, 0));
+        assert_eq!(lines, [0, 0, 0]);
+        assert_eq!(run_backwards(&CIRCUIT, &mut lines), answer(0, 0));
+        assert_eq!(lines, [1, 0, 0]);
+
+        assert_eq!(run_forwards(&CIRCUIT, &mut [0, 2, 0]), answer(13, 0));
+        assert_eq!(run_backwards(&CIRCUIT, &mut []), answer(13, 0));
+    }
+
+    #[test]
+    fn the_answer_to_an_undo_is_the_number_of_bytes_written() {
+        let mut area = [7; 46];
+        assert_eq!(undo(&CIRCUIT, &[0, 1, 0], &mut area), answer(0, 44));
+        assert_eq!(area[18], 16);
+        assert_eq!(area[28..], [3, 0, 0, 0, 1, 0, 2, 0, 1, 0, 0, 0, 0, 0, 0, 0, 7, 7]);
+
+        assert_eq!(undo(&CIRCUIT, &[0, 1], &mut area[..43]), answer(13, 0));
+        assert_eq!(area[28], 3);
+        assert_eq!(undo(&CIRCUIT, &[0, 1, 0], &mut area[..43]), answer(11, 2));
+        assert_eq!(area[..43], [0; 43]);
+        assert_eq!(undo(&CIRCUIT, &[0, 0, 0], &mut []), answer(11, 3));
     }
 }

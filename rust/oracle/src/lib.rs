@@ -16,7 +16,8 @@ use archive::Answer;
 pub struct Refusal {
     /// The cause, as numbered in document 01.
     pub number: u64,
-    /// Where the cause lies: the index of the lowest bad node (5) or output (6), otherwise 0.
+    /// Where the cause lies: the index of the lowest bad node (5), output (6) or gate (12), the
+    /// number of gates needed (11), otherwise 0.
     pub place: u64,
 }
 
@@ -53,6 +54,48 @@ pub fn evaluate(
 ) -> Result<bool, Refusal> {
     let bit = result(archive::evaluate(file, values, inputs, output))?;
     Ok(bit != 0)
+}
+
+/// Reads and checks a circuit file and gives its number of gates.
+///
+/// `file` is only read. Refusals: 1 to 4 and 12.
+pub fn read_circuit(file: &[u8]) -> Result<u64, Refusal> {
+    result(archive::read_circuit(file))
+}
+
+/// Runs a circuit file on the given lines, the first gate first.
+///
+/// - `file` is only read.
+/// - `lines` is one byte, 0 or 1, for each line: inputs, then targets, then work lines. On a result
+///   they are the lines after the run. On a refusal they are as they were.
+///
+/// Refusals: 1 to 4 and 12 of the file; 13, `lines` has the wrong length or a byte that is no bit.
+pub fn run_forwards(file: &[u8], lines: &mut [u8]) -> Result<(), Refusal> {
+    result(archive::run_forwards(file, lines)).map(|_| ())
+}
+
+/// Runs a circuit file on the given lines, the last gate first, and so takes back what
+/// [`run_forwards`] did.
+///
+/// The parameters and the refusals are those of [`run_forwards`].
+pub fn run_backwards(file: &[u8], lines: &mut [u8]) -> Result<(), Refusal> {
+    result(archive::run_backwards(file, lines)).map(|_| ())
+}
+
+/// Writes the circuit file that undoes a circuit except on chosen lines, and gives its length: the
+/// gates whose target is not chosen, the last one first, under the same head.
+///
+/// - `file` is only read.
+/// - `choices` is only read: one byte for each line, 1 if the line is chosen, otherwise 0.
+/// - `area` needs 28 bytes, and 8 for each gate that remains. On a result the file is at its start,
+///   and the bytes past it are as they were. On refusal 11 all of it is zero, on any other it is as
+///   it was.
+///
+/// Refusals: 1 to 4 and 12 of the file; 13, `choices` has the wrong length or a byte that is no
+/// bit; and, checked last, 11, `area` is too short.
+pub fn undo(file: &[u8], choices: &[u8], area: &mut [u8]) -> Result<usize, Refusal> {
+    let length = result(archive::undo(file, choices, area))?;
+    Ok(length as usize)
 }
 
 /// Parts a result's value from a refusal.

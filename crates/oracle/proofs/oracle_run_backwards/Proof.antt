@@ -1,0 +1,25 @@
+use borrow.Author.Needs.{needs}
+use Rattle.oracle.proofs.oracle_run_backwards.Statement.{statement}
+use Rattle.oracle.proofs.oracle_run_backwards.Tie as tie
+use Rattle.oracle.proofs.oracle_run_backwards.Reads as reads
+use Rattle.oracle.proofs.oracle_run_backwards.Lts as lts
+use Rattle.circuit.proofs.runner.run_backwards.Reads as run-backwards-reads
+use Rattle.oracle.proofs.run_answer.Reads as run-answer-reads
+use mathlib.Core.Path.{ap, _∙_}
+use Rattle.oracle.specs.Exported.{exported}
+
+run-backwards-requires : tie.Need-run-backwards-requires
+run-backwards-requires c κs = search needs
+
+run-answer-requires : tie.Need-run-answer-requires
+run-answer-requires c κs = search needs
+
+same-length : tie.Need-same-length
+same-length c = search needs
+
+returns : tie.Need-returns
+returns c = (c .run-answer .ensures ∙ ap exported (c .before .before .before .run-backwards .ensures .0), c .before .before .before .run-backwards .ensures .1)
+
+pub oracle-run-backwards-spec : {M : Type 1} → statement M
+oracle-run-backwards-spec =
+    tie.close (tie.spec run-backwards-requires run-answer-requires same-length returns)

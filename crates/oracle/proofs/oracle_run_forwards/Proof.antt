@@ -1,0 +1,25 @@
+use borrow.Author.Needs.{needs}
+use Rattle.oracle.proofs.oracle_run_forwards.Statement.{statement}
+use Rattle.oracle.proofs.oracle_run_forwards.Tie as tie
+use Rattle.oracle.proofs.oracle_run_forwards.Reads as reads
+use Rattle.oracle.proofs.oracle_run_forwards.Lts as lts
+use Rattle.circuit.proofs.runner.run_forwards.Reads as run-forwards-reads
+use Rattle.oracle.proofs.run_answer.Reads as run-answer-reads
+use mathlib.Core.Path.{ap, _∙_}
+use Rattle.oracle.specs.Exported.{exported}
+
+run-forwards-requires : tie.Need-run-forwards-requires
+run-forwards-requires c κs = search needs
+
+run-answer-requires : tie.Need-run-answer-requires
+run-answer-requires c κs = search needs
+
+same-length : tie.Need-same-length
+same-length c = search needs
+
+returns : tie.Need-returns
+returns c = (c .run-answer .ensures ∙ ap exported (c .before .before .before .run-forwards .ensures .0), c .before .before .before .run-forwards .ensures .1)
+
+pub oracle-run-forwards-spec : {M : Type 1} → statement M
+oracle-run-forwards-spec =
+    tie.close (tie.spec run-forwards-requires run-answer-requires same-length returns)

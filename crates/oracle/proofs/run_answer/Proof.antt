@@ -1,0 +1,29 @@
+use borrow.Author.Needs.{needs}
+use Rattle.oracle.proofs.run_answer.Statement.{statement}
+use Rattle.oracle.proofs.run_answer.Tie as tie
+use Rattle.oracle.proofs.run_answer.Reads as reads
+use Rattle.oracle.proofs.run_answer.Lts as lts
+use Rattle.oracle.proofs.refusal.Reads as refusal-reads
+use mathlib.Core.Path.{sym, ap, _∙_}
+use Rattle.circuit.specs.declared.runner.Ran.{Ran}
+use Rattle.circuit.specs.RunCircuit.{ran}
+use Rattle.oracle.specs.Exported.{exported}
+
+enum-told : tie.Need-enum-told
+enum-told c = search needs
+
+enum-known-answer : tie.Need-enum-known-answer
+enum-known-answer c = search needs
+
+refusal-requires : tie.Need-refusal-requires
+refusal-requires c κs = search needs
+
+returns : tie.Need-returns
+returns c = ap (λ (a : Ran). exported (ran a)) (sym (c .enum-told .given .1))
+
+returns-2 : tie.Need-returns-2
+returns-2 c = c .refusal .ensures ∙ ap (λ (a : Ran). exported (ran a)) (sym (c .before .before .answer .given .1))
+
+pub run-answer-spec : {M : Type 1} → statement M
+run-answer-spec =
+    tie.close (tie.spec enum-told enum-known-answer refusal-requires returns returns-2)

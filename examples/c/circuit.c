@@ -1,0 +1,174 @@
+/* Links liboracle.a as a loader would: reads a small circuit file, runs it on every input forwards
+ * and backwards, undoes it except on its target, and shows refusals. It exits with 1 where an answer
+ * is not the one that it expects. */
+#include <stdbool.h>
+#include <stdio.h>
+#include <string.h>
+
+#include "oracle.h"
+
+/* AND of two inputs: lines 0 and 1 are the inputs, 2 is the target, 3 and 4 are work lines. */
+static const uint8_t and_circuit[] = {
+    2, 0,                                           /* two entries: tag, start, length */
+    17, 0, 22, 0, 0, 0, 6,  0, 0, 0,
+    18, 0, 28, 0, 0, 0, 40, 0, 0, 0,
+    2, 0, 1, 0, 2, 0,                               /* inputs, outputs, work lines */
+    2, 0, 0, 0, 0, 0, 3, 0,                         /* C 0 3 */
+    2, 0, 1, 0, 0, 0, 4, 0,                         /* C 1 4 */
+    3, 0, 3, 0, 4, 0, 2, 0,                         /* T 3 4 2 */
+    2, 0, 1, 0, 0, 0, 4, 0,                         /* C 1 4 */
+    2, 0, 0, 0, 0, 0, 3, 0,                         /* C 0 3 */
+};
+
+/* The same without the gate on line 2, from the last gate to the first. */
+static const uint8_t undone_circuit[] = {
+    2, 0,
+    17, 0, 22, 0, 0, 0, 6,  0, 0, 0,
+    18, 0, 28, 0, 0, 0, 32, 0, 0, 0,
+    2, 0, 1, 0, 2, 0,
+    2, 0, 0, 0, 0, 0, 3, 0,                         /* C 0 3 */
+    2, 0, 1, 0, 0, 0, 4, 0,                         /* C 1 4 */
+    2, 0, 1, 0, 0, 0, 4, 0,                         /* C 1 4 */
+    2, 0, 0, 0, 0, 0, 3, 0,                         /* C 0 3 */
+};
+
+enum { LENGTH = sizeof and_circuit, UNDONE = sizeof undone_circuit, LINES = 5 };
+
+static const uint8_t only_the_target[LINES] = {0, 0, 1, 0, 0};
+
+static bool all_as_expected = true;
+
+static void show(const char *what, oracle_answer answer, uint64_t number, uint64_t value)
+{
+    if (answer.number == 0)
+        printf("%s: %llu\n", what, (unsigned long long)answer.value);
+    else
+        printf("%s: refused %llu %llu\n", what, (unsigned long long)answer.number,
+               (unsigned long long)answer.value);
+    if (answer.number != number || answer.value != value)
+        all_as_expected = false;
+}
+
+static void holds(bool test, const char *what)
+{
+    if (!test) {
+        printf("not as expected: %s\n", what);
+        all_as_expected = false;
+    }
+}
+
+static bool filled(const uint8_t *area, size_t length, uint8_t byte)
+{
+    for (size_t i = 0; i < length; i++)
+        if (area[i] != byte)
+            return false;
+    return true;
+}
+
+/* Runs forwards from a start and checks every line, then back to the start. */
+static void run(const uint8_t start[LINES], const uint8_t end[LINES])
+{
+    uint8_t lines[LINES];
+    memcpy(lines, start, LINES);
+
+    oracle_answer there = oracle_run_forwards(and_circuit, LENGTH, lines, LINES);
+    holds(there.number == 0 && there.value == 0, "the answer to a run forwards");
+    printf("%d%d%d%d%d to %d%d%d%d%d\n", start[0], start[1], start[2], start[3], start[4],
+           lines[0], lines[1], lines[2], lines[3], lines[4]);
+    holds(memcmp(lines, end, LINES) == 0, "the lines after a run forwards");
+
+    oracle_answer back = oracle_run_backwards(and_circuit, LENGTH, lines, LINES);
+    holds(back.number == 0 && back.value == 0, "the answer to a run backwards");
+    holds(memcmp(lines, start, LINES) == 0, "the lines after a run backwards");
+}
+
+static void show_runs(void)
+{
+    for (uint8_t a = 0; a < 2; a++) {
+        for (uint8_t b = 0; b < 2; b++) {
+            for (uint8_t target = 0; target < 2; target++) {
+                const uint8_t start[LINES] = {a, b, target, 0, 0};
+                const uint8_t end[LINES] = {a, b, target ^ (a & b), 0, 0};
+                run(start, end);
+            }
+        }
+    }
+
+    /* A work line that starts at 1: the target is not flipped, and the line ends as it started. */
+    const uint8_t dirty[LINES] = {1, 1, 1, 1, 0};
+    run(dirty, dirty);
+}
+
+static void show_undo(void)
+{
+    uint8_t area[LENGTH];
+    memset(area, 9, LENGTH);
+
+    show("undo but line 2",
+         oracle_undo(and_circuit, LENGTH, only_the_target, LINES, area, LENGTH), 0, UNDONE);
+    holds(memcmp(area, undone_circuit, UNDONE) == 0, "the file written");
+    holds(filled(area + UNDONE, LENGTH - UNDONE, 9), "the area behind the file written");
+    show("its gates", oracle_read_circuit(area, UNDONE), 0, 4);
+}
+
+/* The first three gates build the AND and leave the work lines as they are. Undoing them except on
+ * the target gives the gates that follow in the file, which clean up. */
+static void show_cleaning(void)
+{
+    enum { BUILT = 28 + 3 * 8, CLEANING = 28 + 2 * 8 };
+    uint8_t built[BUILT], cleaning[CLEANING];
+    memcpy(built, and_circuit, BUILT);
+    built[18] = 3 * 8;
+
+    show("undo of three gates",
+         oracle_undo(built, BUILT, only_the_target, LINES, cleaning, CLEANING), 0, CLEANING);
+    holds(memcmp(cleaning + 28, and_circuit + BUILT, 2 * 8) == 0, "the last two gates");
+
+    uint8_t lines[LINES] = {1, 1, 0, 0, 0};
+    const uint8_t dirty[LINES] = {1, 1, 1, 1, 1};
+    const uint8_t clean[LINES] = {1, 1, 1, 0, 0};
+    show("build", oracle_run_forwards(built, BUILT, lines, LINES), 0, 0);
+    holds(memcmp(lines, dirty, LINES) == 0, "the lines after building");
+    show("clean", oracle_run_forwards(cleaning, CLEANING, lines, LINES), 0, 0);
+    holds(memcmp(lines, clean, LINES) == 0, "the lines after cleaning");
+    show("build backwards", oracle_run_backwards(built, BUILT, lines, LINES), 0, 0);
+    holds(memcmp(lines, dirty, LINES) == 0, "the lines after building backwards");
+}
+
+static void show_refusals(void)
+{
+    uint8_t area[LENGTH], damaged[LENGTH];
+    memset(area, 9, LENGTH);
+    memcpy(damaged, and_circuit, LENGTH);
+    damaged[46] = 4; /* both controls of gate 2 are line 4 */
+
+    show("empty file", oracle_read_circuit(NULL, 0), 1, 0);
+    show("equal controls", oracle_read_circuit(damaged, LENGTH), 12, 2);
+    show("undo of that",
+         oracle_undo(damaged, LENGTH, only_the_target, LINES, area, LENGTH), 12, 2);
+    holds(filled(area, LENGTH, 9), "the area after refusal 12");
+
+    const uint8_t no_bit[LINES] = {1, 1, 0, 0, 2};
+    uint8_t lines[LINES];
+    memcpy(lines, no_bit, LINES);
+    show("line 4 is 2", oracle_run_forwards(and_circuit, LENGTH, lines, LINES), 13, 0);
+    show("no lines", oracle_run_backwards(and_circuit, LENGTH, NULL, 0), 13, 0);
+    holds(memcmp(lines, no_bit, LINES) == 0, "the lines after refusal 13");
+    show("choice 4 is 2", oracle_undo(and_circuit, LENGTH, no_bit, LINES, area, 1), 13, 0);
+    holds(filled(area, LENGTH, 9), "the area after refusal 13");
+
+    show("a byte too few",
+         oracle_undo(and_circuit, LENGTH, only_the_target, LINES, area, UNDONE - 1), 11, 4);
+    holds(filled(area, UNDONE - 1, 0), "the area after refusal 11");
+    holds(filled(area + UNDONE - 1, LENGTH - UNDONE + 1, 9), "what is behind that area");
+}
+
+int main(void)
+{
+    show("gates", oracle_read_circuit(and_circuit, LENGTH), 0, 5);
+    show_runs();
+    show_undo();
+    show_cleaning();
+    show_refusals();
+    return all_as_expected ? 0 : 1;
+}

@@ -1,0 +1,263 @@
+//! Circuit files: written from their fields, drawn at random, and damaged.
+
+use crate::damage;
+use crate::layout::Layout;
+use crate::random::Random;
+
+/// The fields of a gate.
+#[derive(Debug, Clone, Copy)]
+pub struct Gate {
+    /// The kind, 1 to 3 if good.
+    pub kind: u8,
+    /// The byte that has to be zero.
+    pub zero: u8,
+    /// The control.
+    pub control: u16,
+    /// The second control.
+    pub second: u16,
+    /// The target.
+    pub target: u16,
+}
+
+/// A gate from its kind and lines.
+pub const fn gate(kind: u8, control: u16, second: u16, target: u16) -> Gate {
+    Gate { kind, zero: 0, control, second, target }
+}
+
+/// NOT of the target.
+pub const fn not(target: u16) -> Gate {
+    gate(1, 0, 0, target)
+}
+
+/// The control into the target.
+pub const fn cnot(control: u16, target: u16) -> Gate {
+    gate(2, control, 0, target)
+}
+
+/// The AND of two controls into the target.
+pub const fn toffoli(control: u16, second: u16, target: u16) -> Gate {
+    gate(3, control, second, target)
+}
+
+impl Gate {
+    /// The same with another byte in the place of the zero byte.
+    pub const fn with_zero_byte(mut self, byte: u8) -> Gate {
+        self.zero = byte;
+        self
+    }
+
+    /// The controls that a gate of this kind has.
+    pub fn controls(&self) -> Vec<u16> {
+        match self.kind {
+            1 => vec![],
+            2 => vec![self.control],
+            _ => vec![self.control, self.second],
+        }
+    }
+}
+
+/// The fields of a circuit file below its table of contents.
+#[derive(Debug, Clone)]
+pub struct Circuit {
+    /// n as written.
+    pub inputs: u16,
+    /// m as written.
+    pub outputs: u16,
+    /// w as written.
+    pub work: u16,
+    /// The gates.
+    pub gates: Vec<Gate>,
+}
+
+impl Circuit {
+    /// A circuit of n inputs, m outputs and w work lines.
+    pub fn new(inputs: u16, outputs: u16, work: u16, gates: &[Gate]) -> Circuit {
+        Circuit { inputs, outputs, work, gates: gates.to_vec() }
+    }
+
+    /// The number of lines that n, m and w give.
+    pub fn lines(&self) -> usize {
+        usize::from(self.inputs) + usize::from(self.outputs) + usize::from(self.work)
+    }
+
+    /// The file laid open.
+    pub fn layout(&self) -> Layout {
+        let head = [self.inputs, self.outputs, self.work].map(u16::to_le_bytes).concat();
+
+        let mut gates = Vec::with_capacity(8 * self.gates.len());
+        for gate in &self.gates {
+            gates.extend([gate.kind, gate.zero]);
+            gates.extend(gate.control.to_le_bytes());
+            gates.extend(gate.second.to_le_bytes());
+            gates.extend(gate.target.to_le_bytes());
+        }
+        Layout::new(vec![(17, head), (18, gates)])
+    }
+
+    /// The file.
+    pub fn bytes(&self) -> Vec<u8> {
+        self.layout().bytes()
+    }
+}
+
+/// A random circuit that every check accepts: all kinds, any line as target, mostly few gates.
+pub fn valid(random: &mut Random) -> Circuit {
+    let inputs = match random.below(8) {
+        0 => 64,
+        1 => random.within(0..=64),
+        _ => random.within(0..=4),
+    };
+    let outputs = match random.below(8) {
+        0 => 64,
+        1 => random.within(1..=64),
+        _ => random.within(1..=3),
+    };
+    let work = match random.below(8) {
+        0 => 1024,
+        1 => random.within(0..=1024),
+        _ => random.within(0..=4),
+    };
+    let gate_count = match random.below(256) {
+        0 => 8000,
+        1 => random.within(0..=8000),
+        2..=15 => random.within(0..=300),
+        16..=31 => 0,
+        _ => random.within(1..=24),
+    };
+
+    let lines = inputs + outputs + work;
+    let gates: Vec<Gate> = (0..gate_count).map(|_| valid_gate(random, lines)).collect();
+    Circuit::new(inputs as u16, outputs as u16, work as u16, &gates)
+}
+
+/// A random gate of a circuit with so many lines.
+pub fn valid_gate(random: &mut Random, lines: usize) -> Gate {
+    // A gate of kind k has k lines.
+    let kind = random.within(1..=lines.min(3));
+    let mut drawn = Vec::with_capacity(kind);
+    while drawn.len() < kind {
+        let line = line(random, lines);
+        if !drawn.contains(&line) {
+            drawn.push(line);
+        }
+    }
+    match drawn[..] {
+        [control, second, target] => toffoli(control, second, target),
+        [control, target] => cnot(control, target),
+        _ => not(drawn[0]),
+    }
+}
+
+/// A line, often the first, the last or one of the first few, so that gates meet.
+fn line(random: &mut Random, lines: usize) -> u16 {
+    let any = random.below(lines);
+    let few = random.below(lines.min(6));
+    random.pick(&[0, lines - 1, few, few, any, any]) as u16
+}
+
+/// A random circuit file with something changed, mostly so that it is refused.
+pub fn damaged(random: &mut Random) -> Vec<u8> {
+    let mut circuit = valid(random);
+    // Two damages at a time show that the lowest cause is the one reported.
+    if random.once_in(4) {
+        damage_fields(random, &mut circuit);
+    }
+    match random.below(10) {
+        0 => {
+            damage_head(random, &mut circuit);
+            circuit.bytes()
+        }
+        1..=2 => {
+            damage_fields(random, &mut circuit);
+            circuit.bytes()
+        }
+        3 => damage::with_table_damaged(random, circuit.layout()),
+        4 => damage::with_bodies_resized(random, circuit.layout(), 8),
+        5 => damage::with_bodies_swapped(random, circuit.layout()),
+        6 => damage::with_a_byte_changed(random, circuit.bytes(), 28),
+        7 => damage::cut_short(random, circuit.bytes(), 22),
+        8 => damage::lengthened(random, circuit.bytes()),
+        _ if random.once_in(2) => damage::with_sums_past_32_bits(random, circuit.layout()),
+        _ => damage::noise(random, 2),
+    }
+}
+
+/// Changes the head, the number of gates or, mostly, a field of one or two gates.
+fn damage_fields(random: &mut Random, circuit: &mut Circuit) {
+    match random.below(64) {
+        0 => {
+            let count = random.pick(&[8001, 8002, 8192, 8193]);
+            circuit.gates.resize(count, not(0));
+        }
+        1..=9 => damage_head(random, circuit),
+        10..=24 => {
+            damage_gate(random, circuit);
+            damage_gate(random, circuit);
+        }
+        _ => damage_gate(random, circuit),
+    }
+}
+
+fn damage_head(random: &mut Random, circuit: &mut Circuit) {
+    match random.below(3) {
+        0 => circuit.inputs = random.pick(&[0, 1, 63, 64, 65, 256, 320, 65535]),
+        1 => circuit.outputs = random.pick(&[0, 1, 2, 63, 64, 65, 256, 257, 65535]),
+        _ => circuit.work = random.pick(&[0, 1, 1023, 1024, 1025, 1280, 2048, 65535]),
+    }
+}
+
+/// Changes a field of a gate, mostly to a value next to a limit or to another of its lines.
+fn damage_gate(random: &mut Random, circuit: &mut Circuit) {
+    if circuit.gates.is_empty() {
+        return damage_head(random, circuit);
+    }
+    let lines = circuit.lines() as u16;
+    let i = random.below(circuit.gates.len());
+    let gate = &mut circuit.gates[i];
+    let fields = [
+        0,
+        1,
+        gate.control,
+        gate.second,
+        gate.target,
+        lines.wrapping_sub(1),
+        lines,
+        lines.wrapping_add(1),
+        256,
+        65535,
+    ];
+    match random.below(5) {
+        0 => gate.kind = random.pick(&[0, 1, 2, 3, 4, 18, 128, 255]),
+        1 => gate.zero = random.pick(&[1, 128, 255]),
+        2 => gate.control = random.pick(&fields),
+        3 => gate.second = random.pick(&fields),
+        _ => gate.target = random.pick(&fields),
+    }
+}
+
+/// Bytes for so many lines: bits, and where they need not be good, every other time too few or too
+/// many of them, or one that is no bit.
+pub fn line_bytes(random: &mut Random, lines: usize, good: bool) -> Vec<u8> {
+    let mut bytes = random.bits(lines);
+    if good || random.once_in(2) {
+        return bytes;
+    }
+    match random.below(5) {
+        0 => {
+            bytes.pop();
+        }
+        1 => bytes.push(0),
+        2 => bytes.clear(),
+        3 => {
+            let length = random.within(0..=1300);
+            bytes = random.bits(length);
+        }
+        _ if lines > 0 => {
+            let any = random.below(lines);
+            let at = random.pick(&[0, lines - 1, any]);
+            bytes[at] = random.pick(&[2, 3, 128, 254, 255]);
+        }
+        _ => bytes.push(2),
+    }
+    bytes
+}

@@ -1,0 +1,365 @@
+//! run_forwards and run_backwards: the archive beside the model, the lines before and after
+//! included.
+
+use agreement::circuit::{self, cnot, gate, not, toffoli, Circuit, Gate};
+use agreement::lent::lent;
+use agreement::random::Random;
+use agreement::tally::Tally;
+use agreement::{hex, shaped_circuit, Outcome};
+
+use Direction::{Backwards, Forwards};
+
+#[derive(Debug, Clone, Copy)]
+enum Direction {
+    Forwards,
+    Backwards,
+}
+
+/// What one call gives, and the lines after it.
+type Ran = (Outcome<()>, Vec<u8>);
+
+fn archive(direction: Direction, file: &[u8], lines: &[u8]) -> Ran {
+    let run = match direction {
+        Forwards => oracle::run_forwards,
+        Backwards => oracle::run_backwards,
+    };
+    let (ran, file_after) = lent(file, |file| {
+        lent(lines, |lines| run(file, lines).map_err(|refusal| (refusal.number, refusal.place)))
+    });
+    assert!(file_after == file, "{direction:?} wrote to the file");
+    ran
+}
+
+fn model(direction: Direction, file: &[u8], lines: &[u8]) -> Ran {
+    let run = match direction {
+        Forwards => model::run::forwards,
+        Backwards => model::run::backwards,
+    };
+    let mut lines = lines.to_vec();
+    let outcome = run(file, &mut lines).map_err(|refusal| (refusal.number, refusal.place));
+    (outcome, lines)
+}
+
+/// Runs both sides on a case and holds them to each other and to what the lines may be afterwards.
+fn compare(direction: Direction, file: &[u8], lines: &[u8]) -> Ran {
+    let describe =
+        || format!("{direction:?}, {} lines {lines:?}, file of {}", lines.len(), hex(file));
+    let expected = model(direction, file, lines);
+    let ran = archive(direction, file, lines);
+    assert_eq!(ran.0, expected.0, "the archive, then the model, {}", describe());
+    assert_eq!(ran.1, expected.1, "the lines of archive and model, {}", describe());
+    match ran.0 {
+        Ok(()) => assert!(ran.1.iter().all(|line| *line <= 1), "{}", describe()),
+        Err(_) => assert_eq!(ran.1, lines, "a refusal leaves the lines, {}", describe()),
+    }
+    ran
+}
+
+/// A shaped run, with the lines given and those expected.
+fn gives(name: &str, direction: Direction, circuit: &Circuit, lines: &[u8], after: &[u8]) {
+    let file = circuit.bytes();
+    let expected = (Ok(()), after.to_vec());
+    assert_eq!(model(direction, &file, lines), expected, "{name}, {direction:?}, model");
+    assert_eq!(archive(direction, &file, lines), expected, "{name}, {direction:?}, archive");
+}
+
+/// A shaped run that is refused both ways and leaves the lines.
+fn refuses(name: &str, file: &[u8], lines: &[u8], refusal: (u64, u64)) {
+    let expected = (Err(refusal), lines.to_vec());
+    for direction in [Forwards, Backwards] {
+        assert!(model(direction, file, lines) == expected, "{name}, {direction:?}, model");
+        let given = archive(direction, file, lines);
+        assert_eq!(given.0, expected.0, "{name}, {direction:?}, archive");
+        assert!(given.1 == lines, "{name}, {direction:?}, archive, the lines");
+    }
+}
+
+/// The whole case is the same from both ends, so both directions give the same.
+#[test]
+fn the_whole_case_on_all_inputs() {
+    let circuit = shaped_circuit::whole_case();
+    let check = |lines: [u8; 5], after: [u8; 5]| {
+        for direction in [Forwards, Backwards] {
+            gives("the whole case", direction, &circuit, &lines, &after);
+        }
+    };
+    check([0, 0, 0, 0, 0], [0, 0, 0, 0, 0]);
+    check([0, 1, 0, 0, 0], [0, 1, 0, 0, 0]);
+    check([1, 0, 0, 0, 0], [1, 0, 0, 0, 0]);
+    check([1, 1, 0, 0, 0], [1, 1, 1, 0, 0]);
+    check([0, 0, 1, 0, 0], [0, 0, 1, 0, 0]);
+    check([0, 1, 1, 0, 0], [0, 1, 1, 0, 0]);
+    check([1, 0, 1, 0, 0], [1, 0, 1, 0, 0]);
+    check([1, 1, 1, 0, 0], [1, 1, 0, 0, 0]);
+    // A work line that starts at 1 stays 1, and the AND is not that of the inputs.
+    check([1, 1, 1, 1, 0], [1, 1, 1, 1, 0]);
+    check([0, 1, 0, 1, 0], [0, 1, 1, 1, 0]);
+    check([1, 1, 0, 0, 1], [1, 1, 0, 0, 1]);
+    check([0, 0, 0, 1, 1], [0, 0, 1, 1, 1]);
+}
+
+#[test]
+fn the_other_examples() {
+    let nor = shaped_circuit::nor();
+    gives("NOR 0 0", Forwards, &nor, &[0, 0, 0, 0, 0], &[0, 0, 1, 0, 0]);
+    gives("NOR 0 1", Forwards, &nor, &[0, 1, 0, 0, 0], &[0, 1, 0, 0, 0]);
+    gives("NOR 1 0", Forwards, &nor, &[1, 0, 1, 0, 0], &[1, 0, 1, 0, 0]);
+    gives("NOR 1 1", Forwards, &nor, &[1, 1, 1, 0, 0], &[1, 1, 1, 0, 0]);
+
+    let three = shaped_circuit::and_of_three();
+    gives("AND 1 1 1", Forwards, &three, &[1, 1, 1, 0, 0, 0, 0, 0], &[1, 1, 1, 1, 0, 0, 0, 0]);
+    gives("AND 1 1 0", Forwards, &three, &[1, 1, 0, 0, 0, 0, 0, 0], &[1, 1, 0, 0, 0, 0, 0, 0]);
+    gives("AND 0 1 1", Forwards, &three, &[0, 1, 1, 1, 0, 0, 0, 0], &[0, 1, 1, 1, 0, 0, 0, 0]);
+
+    let four = shaped_circuit::and_of_four_built();
+    let built = [1, 1, 1, 1, 1, 1, 1, 1, 1, 1, 1];
+    let inputs = [1, 1, 1, 1, 0, 0, 0, 0, 0, 0, 0];
+    gives("AND 1 1 1 1, built", Forwards, &four, &inputs, &built);
+    gives("AND 1 1 1 1, built", Backwards, &four, &built, &inputs);
+    // Backwards from the inputs, each gate runs before what it needs.
+    gives("AND 1 1 1 1", Backwards, &four, &inputs, &[1, 1, 1, 1, 0, 0, 0, 1, 1, 1, 1]);
+
+    let zero = Circuit::new(0, 1, 0, &[]);
+    gives("output ZERO", Forwards, &zero, &[1], &[1]);
+    gives("output ZERO", Backwards, &zero, &[0], &[0]);
+}
+
+/// The gates of every kind on three lines, with their controls and their target.
+fn on_lines(a: u16, b: u16, c: u16) -> [(Gate, Vec<u16>, u16); 3] {
+    [(not(a), vec![], a), (cnot(a, b), vec![a], b), (toffoli(a, b, c), vec![a, b], c)]
+}
+
+/// Each kind alone, with the first, a middle and the last line in each place and at each value,
+/// once with every other line 0 and once with every other line 1.
+#[test]
+fn every_kind_in_every_place() {
+    let orders = [(0, 1, 2), (0, 2, 1), (1, 0, 2), (1, 2, 0), (2, 0, 1), (2, 1, 0)];
+    for (n, m, w) in [(1, 1, 1), (0, 5, 0), (2, 1, 2), (0, 1, 256), (64, 64, 1024)] {
+        let last = n + m + w - 1;
+        let places = [0, last / 2, last];
+        for (a, b, c) in orders {
+            for (gate, controls, target) in on_lines(places[a], places[b], places[c]) {
+                let circuit = Circuit::new(n, m, w, &[gate]);
+                for state in 0..16 {
+                    let mut lines = vec![state >> 3; circuit.lines()];
+                    for (i, place) in places.iter().enumerate() {
+                        lines[usize::from(*place)] = state >> i & 1;
+                    }
+                    let mut after = lines.clone();
+                    if controls.iter().all(|control| lines[usize::from(*control)] == 1) {
+                        after[usize::from(target)] = 1 - lines[usize::from(target)];
+                    }
+                    let name = format!("{gate:?} of {} lines, state {state}", circuit.lines());
+                    gives(&name, Forwards, &circuit, &lines, &after);
+                    gives(&name, Backwards, &circuit, &lines, &after);
+                }
+            }
+        }
+    }
+}
+
+#[test]
+fn gates_run_in_order() {
+    let three = shaped_circuit::chain(1, 1, 1);
+    gives("a chain of 3", Forwards, &three, &[1, 0, 0], &[1, 1, 1]);
+    gives("a chain of 3", Backwards, &three, &[1, 0, 0], &[1, 1, 0]);
+
+    let long = shaped_circuit::chain(64, 64, 1024);
+    let mut start = vec![0; 1152];
+    start[0] = 1;
+    gives("a chain of 1152", Forwards, &long, &start, &[1; 1152]);
+    let mut after = start.clone();
+    after[1] = 1;
+    gives("a chain of 1152", Backwards, &long, &start, &after);
+    gives("a chain of 1152, back", Backwards, &long, &[1; 1152], &start);
+}
+
+/// 7,999 gates flip the line, 8,000 do not; the last two are told from the first by their lines.
+#[test]
+fn all_of_8000_gates_run() {
+    for (count, after) in [(0, 0), (1, 1), (256, 0), (7999, 1), (8000, 0)] {
+        let circuit = shaped_circuit::nots(count);
+        gives(&format!("{count} gates"), Forwards, &circuit, &[0], &[after]);
+        gives(&format!("{count} gates"), Backwards, &circuit, &[0], &[after]);
+    }
+
+    let mut gates = vec![not(0); 7998];
+    gates.extend([not(1), cnot(1, 2)]);
+    let circuit = Circuit::new(0, 3, 0, &gates);
+    gives("the last gates", Forwards, &circuit, &[0, 0, 0], &[0, 1, 1]);
+    gives("the last gates", Backwards, &circuit, &[0, 0, 0], &[0, 1, 0]);
+}
+
+#[test]
+fn line_bytes() {
+    let file = shaped_circuit::whole_case().bytes();
+    for length in [0, 1, 4, 6, 64, 261, 65541] {
+        refuses(&format!("{length} lines"), &file, &vec![0; length], (13, 0));
+        refuses(&format!("{length} lines of 1"), &file, &vec![1; length], (13, 0));
+    }
+    for at in 0..5 {
+        for byte in [2, 3, 128, 254, 255] {
+            let mut lines = [1, 0, 1, 0, 1];
+            lines[at] = byte;
+            refuses(&format!("line {at} is {byte}"), &file, &lines, (13, 0));
+        }
+    }
+    refuses("all lines 255", &file, &[255; 5], (13, 0));
+
+    // Lines that no gate uses are checked all the same.
+    let unused = Circuit::new(64, 64, 1024, &[]).bytes();
+    refuses("1151 lines", &unused, &[0; 1151], (13, 0));
+    refuses("1153 lines", &unused, &[0; 1153], (13, 0));
+    for at in [0, 63, 64, 127, 128, 256, 1151] {
+        let mut lines = [0; 1152];
+        lines[at] = 2;
+        refuses(&format!("unused line {at} is 2"), &unused, &lines, (13, 0));
+    }
+    let one = shaped_circuit::nots(1).bytes();
+    refuses("no line of 1", &one, &[], (13, 0));
+    refuses("two lines of 1", &one, &[0, 0], (13, 0));
+    refuses("the only line is 2", &one, &[2], (13, 0));
+}
+
+#[test]
+fn causes_together() {
+    let good = shaped_circuit::whole_case();
+    let bad = gate(4, 0, 0, 0);
+    let bad_gate = Circuit::new(2, 1, 2, &[cnot(0, 3), bad]);
+    let bad_range = Circuit::new(2, 1, 1025, &[bad]);
+    let mut bad_length = bad_range.layout();
+    bad_length.bodies[0].push(0);
+    let bad_length = bad_length.fitted();
+
+    for lines in [&[0, 0, 0, 0, 2][..], &[0, 0], &[]] {
+        let name = format!("{lines:?}");
+        refuses(&name, &good.bytes(), lines, (13, 0));
+        refuses(&name, &bad_gate.bytes(), lines, (12, 1));
+        refuses(&name, &bad_range.bytes(), lines, (4, 0));
+        refuses(&name, &bad_length.bytes(), lines, (3, 0));
+        refuses(&name, &good.bytes()[..67], lines, (2, 0));
+        refuses(&name, &good.bytes()[..21], lines, (1, 0));
+    }
+    // The first gate is good and has not run.
+    refuses("12 alone", &bad_gate.bytes(), &[1, 1, 0, 0, 0], (12, 1));
+}
+
+/// The refusals of reading come through as they are, whatever the lines.
+#[test]
+fn shaped_files_refused_by_the_reader() {
+    let mut refusals = 0;
+    for shaped in shaped_circuit::all() {
+        let Err(refusal) = shaped.expected else {
+            continue;
+        };
+        refusals += 1;
+        for lines in [vec![1, 0, 1, 0, 1], vec![1; 1152], vec![2], vec![]] {
+            refuses(&shaped.name, &shaped.file, &lines, refusal);
+        }
+    }
+    println!("run: {refusals} shaped files");
+}
+
+/// Files that the reader accepts, with lines all alike, at random, and one too few.
+#[test]
+fn shaped_files_accepted_by_the_reader() {
+    let mut random = Random::new(0x6c69_6e65);
+    let mut tally = Tally::new("run, shaped files");
+    for shaped in shaped_circuit::all() {
+        if shaped.expected.is_err() {
+            continue;
+        }
+        let count = model::circuit::read(&shaped.file).expect(&shaped.name).lines();
+        for lines in [vec![0; count], vec![1; count], random.bits(count), random.bits(count)] {
+            for direction in [Forwards, Backwards] {
+                let (outcome, _) = compare(direction, &shaped.file, &lines);
+                assert!(outcome.is_ok(), "{}", shaped.name);
+                tally.count(&outcome);
+            }
+            refuses(&shaped.name, &shaped.file, &lines[1..], (13, 0));
+        }
+    }
+    tally.finish(400, &[]);
+}
+
+/// Every one-byte change of a small file. No such change gives cause 3.
+#[test]
+fn each_byte_of_the_whole_case_changed() {
+    let mut tally = Tally::new("run, one byte changed");
+    for at in 0..shaped_circuit::WHOLE_CASE.len() {
+        for byte in 0..=255 {
+            let mut file = shaped_circuit::WHOLE_CASE;
+            file[at] = byte;
+            // As many lines as the changed file has, where it is one.
+            let count = model::circuit::read(&file).map_or(5, |circuit| circuit.lines());
+            let mut lines = vec![1; count];
+            lines[count / 2] = 0;
+            for direction in [Forwards, Backwards] {
+                tally.count(&compare(direction, &file, &lines).0);
+                tally.count(&compare(direction, &file, &[1, 1, 0, 1, 0]).0);
+            }
+        }
+    }
+    tally.finish(68 * 256 * 4, &[1, 2, 4, 12, 13]);
+}
+
+/// Holds for the archive by itself, whatever the model says.
+#[test]
+fn running_back_restores_the_lines() {
+    let mut random = Random::new(0x7265_7374);
+    let mut moved = 0;
+    for _ in 0..4_000 {
+        let circuit = circuit::valid(&mut random);
+        let file = circuit.bytes();
+        let start = random.bits(circuit.lines());
+        for (there, back) in [(Forwards, Backwards), (Backwards, Forwards)] {
+            let (outcome, after) = archive(there, &file, &start);
+            assert_eq!(outcome, Ok(()), "{there:?} on {}", hex(&file));
+            moved += u32::from(after != start);
+            let (outcome, again) = archive(back, &file, &after);
+            assert_eq!(outcome, Ok(()), "{back:?} on {}", hex(&file));
+            assert_eq!(again, start, "{there:?}, then {back:?}, on {}", hex(&file));
+        }
+    }
+    println!("run: lines moved and restored {moved} times");
+    assert!(moved > 4_000, "too few runs moved a line");
+}
+
+#[test]
+fn random_and_damaged_cases_forwards() {
+    random_cases("run_forwards", Forwards, Backwards, 0x666f_7277);
+}
+
+#[test]
+fn random_and_damaged_cases_backwards() {
+    random_cases("run_backwards", Backwards, Forwards, 0x6261_636b);
+}
+
+fn random_cases(service: &'static str, direction: Direction, other: Direction, seed: u64) {
+    let mut random = Random::new(seed);
+    let mut tally = Tally::new(service);
+    let mut differ = 0;
+    for _ in 0..32_000 {
+        let (file, lines) = random_case(&mut random);
+        let ran = compare(direction, &file, &lines);
+        tally.count(&ran.0);
+        differ += u32::from(ran != model(other, &file, &lines));
+    }
+    tally.finish(20_000, &[1, 2, 3, 4, 12, 13]);
+    println!("{service}: {differ} times the direction mattered");
+    assert!(differ > 1_000, "too few circuits tell the directions apart");
+}
+
+/// Every other time a damaged file; then mostly good lines.
+fn random_case(random: &mut Random) -> (Vec<u8>, Vec<u8>) {
+    let file =
+        if random.once_in(2) { circuit::damaged(random) } else { circuit::valid(random).bytes() };
+    // Of a refused file no lines are right, and any will do.
+    let count = match model::circuit::read(&file) {
+        Ok(circuit) => circuit.lines(),
+        Err(_) => random.within(0..=24),
+    };
+    let good = !random.once_in(3);
+    let lines = circuit::line_bytes(random, count, good);
+    (file, lines)
+}

@@ -1,0 +1,473 @@
+//! undo: the archive beside the model, the area before and after included.
+
+use agreement::circuit::{self, cnot, gate, not, toffoli, Circuit, Gate};
+use agreement::lent::lent;
+use agreement::random::Random;
+use agreement::tally::Tally;
+use agreement::{hex, shaped_circuit, Outcome};
+
+/// The length of a circuit file without gates.
+const NO_GATES: usize = 28;
+
+/// What one call is given.
+struct Case {
+    file: Vec<u8>,
+    choices: Vec<u8>,
+    area: Vec<u8>,
+}
+
+/// What one call gives, and the area after it.
+type Undone = (Outcome<usize>, Vec<u8>);
+
+fn archive(case: &Case) -> Undone {
+    let ((undone, choices), file) = lent(&case.file, |file| {
+        lent(&case.choices, |choices| {
+            lent(&case.area, |area| {
+                oracle::undo(file, choices, area).map_err(|refusal| (refusal.number, refusal.place))
+            })
+        })
+    });
+    assert!(file == case.file, "the file was written");
+    assert!(choices == case.choices, "the choices were written");
+    undone
+}
+
+fn model(case: &Case) -> Undone {
+    let mut area = case.area.clone();
+    let outcome = model::undo::undo(&case.file, &case.choices, &mut area)
+        .map_err(|refusal| (refusal.number, refusal.place));
+    (outcome, area)
+}
+
+/// Runs both sides on a case and holds them to each other and to what an area may hold afterwards.
+fn compare(case: &Case) -> Outcome<usize> {
+    let describe = || {
+        format!(
+            "area of {}, choices {:?}, file of {}",
+            case.area.len(),
+            case.choices,
+            hex(&case.file)
+        )
+    };
+    let (expected, expected_area) = model(case);
+    let (outcome, area) = archive(case);
+    assert_eq!(outcome, expected, "the archive, then the model, {}", describe());
+    assert!(area == expected_area, "the areas of archive and model differ, {}", describe());
+    match outcome {
+        Ok(length) => {
+            assert!(area[length..] == case.area[length..], "past the file, {}", describe());
+            reads_back(case, &area[..length]);
+        }
+        Err((11, _)) => assert!(area.iter().all(|byte| *byte == 0), "11, {}", describe()),
+        Err(_) => assert!(area == case.area, "a refusal leaves the area, {}", describe()),
+    }
+    outcome
+}
+
+/// Both readers accept what was written: the head of the file, and its gates without the chosen
+/// targets, from the last to the first.
+fn reads_back(case: &Case, written: &[u8]) {
+    let mut wanted = model::circuit::read(&case.file).expect("a result needs a circuit");
+    wanted.gates.retain(|gate| case.choices[gate.target()] == 0);
+    wanted.gates.reverse();
+    let count = wanted.gates.len() as u64;
+    assert_eq!(oracle::read_circuit(written), Ok(count), "undone: {}", hex(&case.file));
+    assert!(model::circuit::read(written) == Ok(wanted), "undone: {}", hex(&case.file));
+}
+
+/// A shaped case on both sides, with the area expected.
+fn check(name: &str, case: &Case, expected: Outcome<usize>, area: &[u8]) {
+    let length = case.area.len();
+    for (side, given) in [("model", model(case)), ("archive", archive(case))] {
+        assert_eq!(given.0, expected, "{name}, area of {length}, {side}");
+        assert!(given.1 == area, "{name}, area of {length}, {side}: the area");
+    }
+}
+
+/// Undoing a circuit with these lines chosen leaves these gates: in areas that are long enough,
+/// and refused in those that are not.
+fn leaves(name: &str, circuit: &Circuit, chosen: &[usize], gates: &[Gate]) {
+    let mut choices = vec![0; circuit.lines()];
+    for line in chosen {
+        choices[*line] = 1;
+    }
+    let written = Circuit::new(circuit.inputs, circuit.outputs, circuit.work, gates).bytes();
+    let case = |length: usize| Case {
+        file: circuit.bytes(),
+        choices: choices.clone(),
+        area: (0..length).map(|at| at as u8 | 0x80).collect(),
+    };
+    for more in [0, 1, 7, 8, 100] {
+        let case = case(written.len() + more);
+        let area = [&written[..], &case.area[written.len()..]].concat();
+        check(name, &case, Ok(written.len()), &area);
+    }
+    for length in [written.len() - 1, written.len() - 8, NO_GATES - 1, 22, 1, 0] {
+        check(name, &case(length), Err((11, gates.len() as u64)), &vec![0; length]);
+    }
+}
+
+/// A shaped case that is refused and leaves the area, long enough or not.
+fn refuses(name: &str, file: &[u8], choices: &[u8], refusal: (u64, u64)) {
+    for length in [100_000, NO_GATES, 1, 0] {
+        let area = vec![9; length];
+        let case = Case { file: file.to_vec(), choices: choices.to_vec(), area: area.clone() };
+        check(name, &case, Err(refusal), &area);
+    }
+}
+
+#[test]
+fn the_whole_case() {
+    let circuit = shaped_circuit::whole_case();
+    let (first, second, toffoli) = (cnot(0, 3), cnot(1, 4), toffoli(3, 4, 2));
+    let all = [first, second, toffoli, second, first];
+    leaves("none chosen", &circuit, &[], &all);
+    leaves("line 0 chosen", &circuit, &[0], &all);
+    leaves("line 1 chosen", &circuit, &[1], &all);
+    leaves("line 2 chosen", &circuit, &[2], &[first, second, second, first]);
+    leaves("line 3 chosen", &circuit, &[3], &[second, toffoli, second]);
+    leaves("line 4 chosen", &circuit, &[4], &[first, toffoli, first]);
+    leaves("lines 2 and 3 chosen", &circuit, &[2, 3], &[second, second]);
+    leaves("lines 3 and 4 chosen", &circuit, &[3, 4], &[toffoli]);
+    leaves("all chosen", &circuit, &[0, 1, 2, 3, 4], &[]);
+}
+
+/// The second half of a share is its first half undone except on the target.
+#[test]
+fn a_share_is_cleaned_by_undoing() {
+    let whole = shaped_circuit::and_of_three();
+    let (build, clean) = whole.gates.split_at(5);
+    let built = Circuit::new(3, 1, 4, build);
+    leaves("AND of three, target chosen", &built, &[3], clean);
+
+    let four = shaped_circuit::and_of_four_built();
+    let clean =
+        [cnot(3, 10), toffoli(6, 9, 5), cnot(2, 9), toffoli(7, 8, 6), cnot(1, 8), cnot(0, 7)];
+    leaves("AND of four, target chosen", &four, &[4], &clean);
+}
+
+#[test]
+fn gates_are_left_out_by_their_target_alone() {
+    let gates = [not(0), cnot(0, 1), toffoli(0, 1, 2), cnot(2, 0), not(3), toffoli(3, 2, 1)];
+    let circuit = Circuit::new(1, 2, 1, &gates);
+    let [a, b, c, d, e, f] = gates;
+    leaves("none chosen", &circuit, &[], &[f, e, d, c, b, a]);
+    leaves("line 0 chosen", &circuit, &[0], &[f, e, c, b]);
+    leaves("line 1 chosen", &circuit, &[1], &[e, d, c, a]);
+    leaves("line 2 chosen", &circuit, &[2], &[f, e, d, b, a]);
+    leaves("line 3 chosen", &circuit, &[3], &[f, d, c, b, a]);
+    leaves("lines 0 and 3 chosen", &circuit, &[0, 3], &[f, c, b]);
+    leaves("all but line 2 chosen", &circuit, &[0, 1, 3], &[c]);
+    leaves("all chosen", &circuit, &[0, 1, 2, 3], &[]);
+}
+
+#[test]
+fn no_gates() {
+    for (n, m, w) in [(0, 1, 0), (64, 64, 1024), (2, 3, 4)] {
+        let circuit = Circuit::new(n, m, w, &[]);
+        let all: Vec<usize> = (0..circuit.lines()).collect();
+        leaves("no gates, none chosen", &circuit, &[], &[]);
+        leaves("no gates, all chosen", &circuit, &all, &[]);
+    }
+}
+
+/// Every kind with the first, a middle and the last line in each place, each line chosen alone.
+#[test]
+fn every_kind_in_every_place() {
+    for (n, m, w) in [(1, 1, 1), (0, 5, 0), (0, 1, 256), (64, 64, 1024)] {
+        let circuit = shaped_circuit::every_place(n, m, w);
+        let last = circuit.lines() - 1;
+        for chosen in [0, last / 2, last] {
+            let kept = |gate: &&Gate| usize::from(gate.target) != chosen;
+            let gates: Vec<Gate> = circuit.gates.iter().rev().filter(kept).copied().collect();
+            assert_eq!(gates.len(), 12, "each line is the target of a third of the gates");
+            leaves(&format!("line {chosen} chosen"), &circuit, &[chosen], &gates);
+        }
+    }
+}
+
+/// In a chain of 1,152 lines, line i is the target of gate i - 1 and of no other.
+#[test]
+fn each_of_1152_lines_chosen() {
+    let circuit = shaped_circuit::chain(64, 64, 1024);
+    let (file, lines) = (circuit.bytes(), circuit.lines());
+    let reversed: Vec<Gate> = circuit.gates.iter().rev().copied().collect();
+    for chosen in 0..lines {
+        let mut gates = reversed.clone();
+        if chosen > 0 {
+            gates.remove(reversed.len() - chosen);
+        }
+        let written = Circuit::new(64, 64, 1024, &gates).bytes();
+        let mut choices = vec![0; lines];
+        choices[chosen] = 1;
+        let area = vec![9; written.len()];
+        let case = Case { file: file.clone(), choices, area };
+        check(&format!("line {chosen} chosen"), &case, Ok(written.len()), &written);
+    }
+}
+
+#[test]
+fn all_of_8000_gates() {
+    let mut gates = vec![not(0), cnot(0, 1)];
+    gates.extend([toffoli(0, 1, 2); 7996]);
+    gates.extend([cnot(2, 1), not(2)]);
+    let circuit = Circuit::new(1, 1, 1, &gates);
+    gates.reverse();
+    leaves("8000 gates, none chosen", &circuit, &[], &gates);
+    leaves("8000 gates, line 0 chosen", &circuit, &[0], &gates[..7999]);
+    leaves("8000 gates, line 2 chosen", &circuit, &[2], &[cnot(2, 1), cnot(0, 1), not(0)]);
+    leaves("8000 gates, all chosen", &circuit, &[0, 1, 2], &[]);
+}
+
+#[test]
+fn choice_bytes() {
+    let file = shaped_circuit::whole_case().bytes();
+    for length in [0, 1, 4, 6, 64, 261, 65541] {
+        refuses(&format!("{length} choices"), &file, &vec![0; length], (13, 0));
+        refuses(&format!("{length} choices of 1"), &file, &vec![1; length], (13, 0));
+    }
+    for at in 0..5 {
+        for byte in [2, 3, 128, 254, 255] {
+            let mut choices = [1, 0, 1, 0, 1];
+            choices[at] = byte;
+            refuses(&format!("choice {at} is {byte}"), &file, &choices, (13, 0));
+        }
+    }
+
+    // Lines that no gate uses are checked all the same.
+    let unused = Circuit::new(64, 64, 1024, &[]).bytes();
+    refuses("1151 choices", &unused, &[0; 1151], (13, 0));
+    refuses("1153 choices", &unused, &[0; 1153], (13, 0));
+    for at in [0, 63, 64, 127, 128, 256, 1151] {
+        let mut choices = [0; 1152];
+        choices[at] = 2;
+        refuses(&format!("unused choice {at} is 2"), &unused, &choices, (13, 0));
+    }
+}
+
+/// 13 comes before 11, which is the last.
+#[test]
+fn causes_together() {
+    let good = shaped_circuit::whole_case();
+    let bad = gate(4, 0, 0, 0);
+    let bad_gate = Circuit::new(2, 1, 2, &[cnot(0, 3), bad]);
+    let bad_range = Circuit::new(2, 1, 1025, &[bad]);
+    let mut bad_length = bad_range.layout();
+    bad_length.bodies[0].push(0);
+    let bad_length = bad_length.fitted();
+
+    // refuses lends areas that are long enough and areas that are not.
+    for choices in [&[0, 0, 0, 0, 2][..], &[0, 0], &[]] {
+        let name = format!("{choices:?}");
+        refuses(&name, &good.bytes(), choices, (13, 0));
+        refuses(&name, &bad_gate.bytes(), choices, (12, 1));
+        refuses(&name, &bad_range.bytes(), choices, (4, 0));
+        refuses(&name, &bad_length.bytes(), choices, (3, 0));
+        refuses(&name, &good.bytes()[..67], choices, (2, 0));
+        refuses(&name, &good.bytes()[..21], choices, (1, 0));
+    }
+    refuses("12, with good choices", &bad_gate.bytes(), &[0; 5], (12, 1));
+    // A gate that would be left out is checked all the same.
+    let left_out = Circuit::new(2, 1, 2, &[cnot(0, 3), cnot(3, 3)]);
+    refuses("12, left out", &left_out.bytes(), &[0, 0, 0, 1, 0], (12, 1));
+}
+
+/// The refusals of reading come through as they are, whatever else is wrong.
+#[test]
+fn shaped_files_refused_by_the_reader() {
+    let mut refusals = 0;
+    for shaped in shaped_circuit::all() {
+        let Err(refusal) = shaped.expected else {
+            continue;
+        };
+        refusals += 1;
+        for choices in [vec![0; 5], vec![1; 1152], vec![2], vec![]] {
+            refuses(&shaped.name, &shaped.file, &choices, refusal);
+        }
+    }
+    println!("undo: {refusals} shaped files");
+}
+
+/// Files that the reader accepts, with all lines chosen, none, and some, in several areas.
+#[test]
+fn shaped_files_accepted_by_the_reader() {
+    let mut random = Random::new(0x7570_6c6f);
+    let mut tally = Tally::new("undo, shaped files");
+    for shaped in shaped_circuit::all() {
+        if shaped.expected.is_err() {
+            continue;
+        }
+        let file = shaped.file;
+        let lines = model::circuit::read(&file).expect(&shaped.name).lines();
+        for choices in [vec![0; lines], vec![1; lines], random.bits(lines)] {
+            for length in [file.len() + 9, file.len(), file.len() - 1, NO_GATES, NO_GATES - 1] {
+                let area = random.bytes(length);
+                let case = Case { file: file.clone(), choices: choices.clone(), area };
+                tally.count(&compare(&case));
+            }
+        }
+    }
+    tally.finish(500, &[11]);
+}
+
+/// Every one-byte change of a small file. No such change gives cause 3.
+#[test]
+fn each_byte_of_the_whole_case_changed() {
+    let mut tally = Tally::new("undo, one byte changed");
+    for at in 0..shaped_circuit::WHOLE_CASE.len() {
+        for byte in 0..=255 {
+            let mut file = shaped_circuit::WHOLE_CASE.to_vec();
+            file[at] = byte;
+            // As many choices as the changed file has lines, where it is one.
+            let lines = model::circuit::read(&file).map_or(5, |circuit| circuit.lines());
+            let mut choices = vec![0; lines];
+            choices[3] = 1;
+            for (choices, length) in [(choices.clone(), 68), (choices, 51), (vec![0; 5], 68)] {
+                let area = vec![9; length];
+                tally.count(&compare(&Case { file: file.clone(), choices, area }));
+            }
+        }
+    }
+    tally.finish(68 * 256 * 3, &[1, 2, 4, 11, 12, 13]);
+}
+
+/// The archive's undo of a file, in an area as long as the file, which is enough.
+fn undone(file: &[u8], choices: &[u8]) -> Vec<u8> {
+    let mut area = vec![9; file.len()];
+    let length = oracle::undo(file, choices, &mut area).expect("a good file");
+    area.truncate(length);
+    area
+}
+
+fn run(file: &[u8], lines: &[u8]) -> Vec<u8> {
+    let mut lines = lines.to_vec();
+    oracle::run_forwards(file, &mut lines).expect("good lines");
+    lines
+}
+
+/// 01's slip: undone in forward order, line 5 would stay 1.
+#[test]
+fn the_work_lines_of_four_inputs_are_cleaned() {
+    let file = shaped_circuit::and_of_four_built().bytes();
+    let built = run(&file, &[1, 1, 1, 1, 0, 0, 0, 0, 0, 0, 0]);
+    assert_eq!(built, [1; 11]);
+    let cleaned = run(&undone(&file, &[0, 0, 0, 0, 1, 0, 0, 0, 0, 0, 0]), &built);
+    assert_eq!(cleaned, [1, 1, 1, 1, 1, 0, 0, 0, 0, 0, 0]);
+}
+
+/// A random circuit and choices such that no chosen line is a control.
+fn controls_not_chosen(random: &mut Random) -> (Circuit, Vec<u8>) {
+    let mut circuit = circuit::valid(random);
+    let times = random.within(2..=4);
+    let choices: Vec<u8> = (0..circuit.lines()).map(|_| u8::from(random.once_in(times))).collect();
+    let chosen = |line: &u16| choices[usize::from(*line)] == 1;
+    circuit.gates.retain(|gate| !gate.controls().iter().any(chosen));
+    (circuit, choices)
+}
+
+/// Where no chosen line is a control, the other lines do not depend on the chosen ones: a circuit
+/// and then its undo restores them, and the chosen lines keep what the circuit gave them. Holds for
+/// the archive by itself, whatever the model says.
+#[test]
+fn a_circuit_and_its_undo_move_only_chosen_lines() {
+    let mut random = Random::new(0x756e_646f);
+    let (mut restored, mut kept) = (0, 0);
+    for _ in 0..4_000 {
+        let (circuit, choices) = controls_not_chosen(&mut random);
+        let file = circuit.bytes();
+        let start = random.bits(circuit.lines());
+        let between = run(&file, &start);
+        let end = run(&undone(&file, &choices), &between);
+        for line in 0..start.len() {
+            let moved = u32::from(between[line] != start[line]);
+            if choices[line] == 1 {
+                kept += moved;
+                assert_eq!(end[line], between[line], "chosen line {line}, {}", hex(&file));
+            } else {
+                restored += moved;
+                assert_eq!(end[line], start[line], "line {line}, {}", hex(&file));
+            }
+        }
+    }
+    println!("undo: {restored} lines moved and restored, {kept} chosen ones moved and kept");
+    assert!(restored > 2_000 && kept > 2_000, "too few lines moved");
+}
+
+/// With no line chosen, the undo runs as the file does backwards, and its undo is the file.
+#[test]
+fn undoing_with_no_line_chosen_reverses() {
+    let mut random = Random::new(0x7265_7673);
+    for _ in 0..4_000 {
+        let circuit = circuit::valid(&mut random);
+        let file = circuit.bytes();
+        let choices = vec![0; circuit.lines()];
+        let reversed = undone(&file, &choices);
+        assert!(undone(&reversed, &choices) == file, "undone twice: {}", hex(&file));
+
+        let start = random.bits(circuit.lines());
+        let mut back = start.clone();
+        oracle::run_backwards(&file, &mut back).expect("good lines");
+        assert_eq!(run(&reversed, &start), back, "{}", hex(&file));
+    }
+}
+
+#[test]
+fn random_and_damaged_cases() {
+    let mut random = Random::new(0x7261_6e64);
+    let mut tally = Tally::new("undo");
+    let mut left_out = 0;
+    for _ in 0..32_000 {
+        let case = random_case(&mut random);
+        let outcome = compare(&case);
+        tally.count(&outcome);
+        if let Ok(length) = outcome {
+            left_out += u32::from(length > NO_GATES && length < case.file.len());
+        }
+    }
+    tally.finish(20_000, &[1, 2, 3, 4, 11, 12, 13]);
+    println!("undo: {left_out} times some gates remained and some did not");
+    assert!(left_out > 1_000, "too few circuits lost a part of their gates");
+}
+
+/// Mostly a good file; then mostly good choices and an area that is long enough.
+fn random_case(random: &mut Random) -> Case {
+    let file =
+        if random.once_in(3) { circuit::damaged(random) } else { circuit::valid(random).bytes() };
+    let good = !random.once_in(3);
+    // Of a refused file no choices are right, and any will do.
+    let Ok(circuit) = model::circuit::read(&file) else {
+        let choices = random.bits(5);
+        let length = random.within(0..=file.len());
+        return Case { file, choices, area: random.bytes(length) };
+    };
+    let choices = random_choices(random, circuit.lines(), good);
+    let kept = circuit.gates.iter().filter(|gate| choices.get(gate.target()) != Some(&1)).count();
+    let area = random_area(random, NO_GATES + 8 * kept);
+    Case { file, choices, area }
+}
+
+fn random_choices(random: &mut Random, lines: usize, good: bool) -> Vec<u8> {
+    match random.below(6) {
+        0 => vec![0; lines],
+        1 => vec![1; lines],
+        2 => {
+            let mut choices = vec![0; lines];
+            choices[random.below(lines)] = 1;
+            choices
+        }
+        _ => circuit::line_bytes(random, lines, good),
+    }
+}
+
+/// An area about as long as is needed.
+fn random_area(random: &mut Random, needed: usize) -> Vec<u8> {
+    let length = match random.below(12) {
+        0..=4 => needed,
+        5..=6 => needed + 1,
+        7 => needed + random.within(2..=64),
+        8..=9 => needed - 1,
+        10 => random.below(needed),
+        _ => random.pick(&[0, 2, 22, NO_GATES - 1, NO_GATES]),
+    };
+    random.bytes(length)
+}

@@ -1,0 +1,146 @@
+//! The services on circuit files as one would write them in Rust: the same checks, answers and
+//! areas, no copy of the gates, and no unsafe code.
+
+use crate::Refused;
+
+const TABLE_LENGTH: usize = 22;
+const HEAD_LENGTH: usize = 6;
+const GATES_START: usize = TABLE_LENGTH + HEAD_LENGTH;
+const GATE_LENGTH: usize = 8;
+const MOST_GATES: usize = 8000;
+
+/// A circuit whose file was accepted. The gates stay in the file.
+struct Circuit<'a> {
+    head: &'a [u8],
+    gates: &'a [u8],
+    lines: usize,
+}
+
+impl Circuit<'_> {
+    fn check_bits(&self, bytes: &[u8]) -> Result<(), Refused> {
+        if bytes.len() == self.lines && bytes.iter().all(|&byte| byte <= 1) {
+            Ok(())
+        } else {
+            Err((13, 0))
+        }
+    }
+}
+
+/// Reads and checks a circuit file and gives its number of gates.
+pub fn read_circuit(file: &[u8]) -> Result<u64, Refused> {
+    let circuit = read(file)?;
+    Ok((circuit.gates.len() / GATE_LENGTH) as u64)
+}
+
+/// Runs a circuit file, the first gate first.
+pub fn run_forwards(file: &[u8], lines: &mut [u8]) -> Result<(), Refused> {
+    let circuit = read(file)?;
+    circuit.check_bits(lines)?;
+    for gate in circuit.gates.chunks_exact(GATE_LENGTH) {
+        step(gate, lines);
+    }
+    Ok(())
+}
+
+/// Runs a circuit file, the last gate first.
+pub fn run_backwards(file: &[u8], lines: &mut [u8]) -> Result<(), Refused> {
+    let circuit = read(file)?;
+    circuit.check_bits(lines)?;
+    for gate in circuit.gates.chunks_exact(GATE_LENGTH).rev() {
+        step(gate, lines);
+    }
+    Ok(())
+}
+
+/// Writes the circuit file of the gates whose target is not chosen, the last one first.
+pub fn undo(file: &[u8], choices: &[u8], area: &mut [u8]) -> Result<usize, Refused> {
+    let circuit = read(file)?;
+    circuit.check_bits(choices)?;
+
+    let kept = |gate: &&[u8]| choices[usize::from(u16_at(gate, 6))] == 0;
+    let gates = || circuit.gates.chunks_exact(GATE_LENGTH).rev().filter(kept);
+    let count = gates().count();
+    let length = GATES_START + GATE_LENGTH * count;
+    if area.len() < length {
+        area.fill(0);
+        return Err((11, count as u64));
+    }
+
+    let (start, body) = area[..length].split_at_mut(GATES_START);
+    start.copy_from_slice(&file[..GATES_START]);
+    start[18..22].copy_from_slice(&(body.len() as u32).to_le_bytes());
+    start[22..].copy_from_slice(circuit.head);
+    for (to, gate) in body.chunks_exact_mut(GATE_LENGTH).zip(gates()) {
+        to.copy_from_slice(gate);
+    }
+    Ok(length)
+}
+
+fn read(file: &[u8]) -> Result<Circuit<'_>, Refused> {
+    let (head, gates) = bodies(file)?;
+    if head.len() != HEAD_LENGTH
+        || gates.len() % GATE_LENGTH != 0
+        || gates.len() > MOST_GATES * GATE_LENGTH
+    {
+        return Err((3, 0));
+    }
+
+    let [n, m, w] = [0, 2, 4].map(|at| usize::from(u16_at(head, at)));
+    if n > 64 || !(1..=64).contains(&m) || w > 1024 {
+        return Err((4, 0));
+    }
+
+    let lines = n + m + w;
+    match gates.chunks_exact(GATE_LENGTH).position(|gate| !is_good(gate, lines)) {
+        Some(index) => Err((12, index as u64)),
+        None => Ok(Circuit { head, gates, lines }),
+    }
+}
+
+fn bodies(file: &[u8]) -> Result<(&[u8], &[u8]), Refused> {
+    if file.len() < TABLE_LENGTH || u16_at(file, 0) != 2 {
+        return Err((1, 0));
+    }
+    let entry = |at| {
+        let (start, length) = (u64::from(u32_at(file, at + 2)), u64::from(u32_at(file, at + 6)));
+        (u16_at(file, at), start, start + length)
+    };
+    let (head_tag, head_start, head_end) = entry(2);
+    let (gates_tag, gates_start, gates_end) = entry(12);
+    if (head_tag, gates_tag) != (17, 18)
+        || head_start != TABLE_LENGTH as u64
+        || gates_start != head_end
+        || gates_end != file.len() as u64
+    {
+        return Err((2, 0));
+    }
+    Ok(file[TABLE_LENGTH..].split_at(head_end as usize - TABLE_LENGTH))
+}
+
+fn is_good(gate: &[u8], lines: usize) -> bool {
+    let [a, b, t] = [2, 4, 6].map(|at| usize::from(u16_at(gate, at)));
+    let in_range = a < lines && b < lines && t < lines;
+    match (gate[0], gate[1]) {
+        (1, 0) => in_range && a == 0 && b == 0,
+        (2, 0) => in_range && b == 0 && a != t,
+        (3, 0) => in_range && a != b && a != t && b != t,
+        _ => false,
+    }
+}
+
+fn step(gate: &[u8], lines: &mut [u8]) {
+    let [a, b, t] = [2, 4, 6].map(|at| usize::from(u16_at(gate, at)));
+    match gate[0] {
+        1 => lines[t] ^= 1,
+        2 => lines[t] ^= lines[a],
+        _ => lines[t] ^= lines[a] & lines[b],
+    }
+}
+
+fn u16_at(bytes: &[u8], at: usize) -> u16 {
+    u16::from_le_bytes([bytes[at], bytes[at + 1]])
+}
+
+fn u32_at(bytes: &[u8], at: usize) -> u32 {
+    u32::from_le_bytes([bytes[at], bytes[at + 1], bytes[at + 2], bytes[at + 3]])
+}

@@ -1,0 +1,270 @@
+//! Reading a circuit file, causes 1 to 4 and 12, and writing one.
+
+use crate::{contents, u16_at, Refusal};
+
+const HEAD_LENGTH: usize = 6;
+const GATE_LENGTH: usize = 8;
+const HEAD_START: usize = 22;
+const GATES_START: usize = HEAD_START + HEAD_LENGTH;
+
+/// A gate, with its lines in the order of the file: controls, then target.
+#[derive(Debug, Clone, Copy, PartialEq, Eq)]
+pub enum Gate {
+    /// Flips the target.
+    Not(usize),
+    /// XORs the control into the target.
+    Cnot(usize, usize),
+    /// XORs the AND of the two controls into the target.
+    Toffoli(usize, usize, usize),
+}
+
+impl Gate {
+    /// The line that the gate writes.
+    pub fn target(self) -> usize {
+        match self {
+            Gate::Not(target) => target,
+            Gate::Cnot(_, target) => target,
+            Gate::Toffoli(_, _, target) => target,
+        }
+    }
+}
+
+/// A circuit whose file was accepted.
+#[derive(Debug, Clone, PartialEq, Eq)]
+pub struct Circuit {
+    /// The number of inputs, n.
+    pub inputs: usize,
+    /// The number of outputs, m.
+    pub outputs: usize,
+    /// The number of work lines, w.
+    pub work: usize,
+    /// The gates, the first to run first.
+    pub gates: Vec<Gate>,
+}
+
+impl Circuit {
+    /// The number of lines, n + m + w.
+    pub fn lines(&self) -> usize {
+        self.inputs + self.outputs + self.work
+    }
+
+    /// 13: not a byte for each line, or one that is no bit.
+    pub(crate) fn check_bits(&self, bytes: &[u8]) -> Result<(), Refusal> {
+        if bytes.len() != self.lines() {
+            return Err(Refusal::of(13));
+        }
+        if bytes.iter().any(|&byte| byte > 1) {
+            return Err(Refusal::of(13));
+        }
+        Ok(())
+    }
+}
+
+/// Reads a circuit file.
+pub fn read(file: &[u8]) -> Result<Circuit, Refusal> {
+    // 1 and 2
+    let [head, gates] = contents::bodies(file, [17, 18])?;
+
+    // 3: the length of a body
+    if head.len() != HEAD_LENGTH {
+        return Err(Refusal::of(3));
+    }
+    if gates.len() % GATE_LENGTH != 0 {
+        return Err(Refusal::of(3));
+    }
+    if gates.len() / GATE_LENGTH > 8000 {
+        return Err(Refusal::of(3));
+    }
+
+    // 4: n, m or w out of range
+    let n = usize::from(u16_at(head, 0));
+    let m = usize::from(u16_at(head, 2));
+    let w = usize::from(u16_at(head, 4));
+    if n > 64 {
+        return Err(Refusal::of(4));
+    }
+    if !(1..=64).contains(&m) {
+        return Err(Refusal::of(4));
+    }
+    if w > 1024 {
+        return Err(Refusal::of(4));
+    }
+
+    // 12: a gate, the lowest first
+    let gates = gates
+        .chunks_exact(GATE_LENGTH)
+        .enumerate()
+        .map(|(i, record)| gate(record, n + m + w).ok_or(Refusal::at(12, i)))
+        .collect::<Result<Vec<_>, _>>()?;
+
+    Ok(Circuit { inputs: n, outputs: m, work: w, gates })
+}
+
+/// The gate of a circuit with so many lines, unless its record is bad.
+fn gate(record: &[u8], lines: usize) -> Option<Gate> {
+    let kind = record[0];
+    let zero = record[1];
+    let a = usize::from(u16_at(record, 2));
+    let b = usize::from(u16_at(record, 4));
+    let t = usize::from(u16_at(record, 6));
+    let in_range = a < lines && b < lines && t < lines;
+    match (kind, zero, a, b) {
+        (1, 0, 0, 0) if in_range => Some(Gate::Not(t)),
+        (2, 0, a, 0) if in_range && a != t => Some(Gate::Cnot(a, t)),
+        (3, 0, a, b) if in_range && a != b && a != t && b != t => Some(Gate::Toffoli(a, b, t)),
+        _ => None,
+    }
+}
+
+/// Writes a circuit file.
+pub fn write(circuit: &Circuit) -> Vec<u8> {
+    let mut file = Vec::new();
+    put_u16(&mut file, 2);
+    put_entry(&mut file, 17, HEAD_START, HEAD_LENGTH);
+    put_entry(&mut file, 18, GATES_START, GATE_LENGTH * circuit.gates.len());
+    put_u16(&mut file, circuit.inputs);
+    put_u16(&mut file, circuit.outputs);
+    put_u16(&mut file, circuit.work);
+    for gate in &circuit.gates {
+        let (kind, control, second, target) = match *gate {
+            Gate::Not(target) => (1, 0, 0, target),
+            Gate::Cnot(control, target) => (2, control, 0, target),
+            Gate::Toffoli(control, second, target) => (3, control, second, target),
+        };
+        file.extend([kind, 0]);
+        put_u16(&mut file, control);
+        put_u16(&mut file, second);
+        put_u16(&mut file, target);
+    }
+    file
+}
+
+fn put_entry(file: &mut Vec<u8>, tag: usize, start: usize, length: usize) {
+    put_u16(file, tag);
+    file.extend((start as u32).to_le_bytes());
+    file.extend((length as u32).to_le_bytes());
+}
+
+fn put_u16(file: &mut Vec<u8>, number: usize) {
+    file.extend((number as u16).to_le_bytes());
+}
+
+#[cfg(test)]
+mod tests {
+    use super::*;
+
+    /// The circuit of the whole case of 01.
+    const AND: [u8; 68] = [
+        2, 0, //
+        17, 0, 22, 0, 0, 0, 6, 0, 0, 0, //
+        18, 0, 28, 0, 0, 0, 40, 0, 0, 0, //
+        2, 0, 1, 0, 2, 0, //
+        2, 0, 0, 0, 0, 0, 3, 0, //
+        2, 0, 1, 0, 0, 0, 4, 0, //
+        3, 0, 3, 0, 4, 0, 2, 0, //
+        2, 0, 1, 0, 0, 0, 4, 0, //
+        2, 0, 0, 0, 0, 0, 3, 0,
+    ];
+
+    fn and() -> Circuit {
+        let (first, second) = (Gate::Cnot(0, 3), Gate::Cnot(1, 4));
+        let gates = vec![first, second, Gate::Toffoli(3, 4, 2), second, first];
+        Circuit { inputs: 2, outputs: 1, work: 2, gates }
+    }
+
+    fn with(changes: &[(usize, u8)]) -> Result<Circuit, Refusal> {
+        let mut file = AND;
+        for &(at, byte) in changes {
+            file[at] = byte;
+        }
+        read(&file)
+    }
+
+    fn refused(number: u64, place: u64) -> Result<Circuit, Refusal> {
+        Err(Refusal { number, place })
+    }
+
+    #[test]
+    fn the_whole_case_is_read_and_written() {
+        assert_eq!(read(&AND), Ok(and()));
+        assert_eq!(write(&and()), AND);
+    }
+
+    #[test]
+    fn each_kind_is_read() {
+        assert_eq!(gate(&[1, 0, 0, 0, 0, 0, 2, 0], 3), Some(Gate::Not(2)));
+        assert_eq!(gate(&[1, 0, 0, 0, 0, 0, 0, 0], 1), Some(Gate::Not(0)));
+        assert_eq!(gate(&[2, 0, 2, 0, 0, 0, 0, 0], 3), Some(Gate::Cnot(2, 0)));
+        assert_eq!(gate(&[3, 0, 2, 0, 0, 0, 1, 0], 3), Some(Gate::Toffoli(2, 0, 1)));
+        assert_eq!(gate(&[0, 0, 2, 0, 0, 0, 1, 0], 3), None);
+        assert_eq!(gate(&[4, 0, 2, 0, 0, 0, 1, 0], 3), None);
+    }
+
+    #[test]
+    fn a_table_that_is_not_there_is_cause_1() {
+        for length in [0, 1, 2, 21] {
+            assert_eq!(read(&AND[..length]), refused(1, 0));
+        }
+        assert_eq!(with(&[(0, 3)]), refused(1, 0));
+        assert_eq!(with(&[(1, 1)]), refused(1, 0));
+    }
+
+    #[test]
+    fn a_wrong_tag_start_or_end_is_cause_2() {
+        assert_eq!(read(&AND[..22]), refused(2, 0));
+        assert_eq!(read(&AND[..67]), refused(2, 0));
+        assert_eq!(read(&[&AND[..], &[0]].concat()), refused(2, 0));
+        for at in [2, 4, 8, 12, 14, 18] {
+            assert_eq!(with(&[(at, AND[at] + 1)]), refused(2, 0));
+        }
+        // The first body ends at 2^32 + 20, the second starts at 20.
+        let wrapped = [(8, 0xfe), (9, 0xff), (10, 0xff), (11, 0xff), (14, 20), (18, 48)];
+        assert_eq!(with(&wrapped), refused(2, 0));
+    }
+
+    #[test]
+    fn a_body_of_the_wrong_length_is_cause_3() {
+        // One byte, then eight, go from the gates to the head, or the other way; n is wrong too.
+        assert_eq!(with(&[(8, 7), (14, 29), (18, 39), (22, 65)]), refused(3, 0));
+        assert_eq!(with(&[(8, 14), (14, 36), (18, 32), (22, 65)]), refused(3, 0));
+        assert_eq!(with(&[(8, 5), (14, 27), (18, 41), (22, 65)]), refused(3, 0));
+        let mut file = AND[..67].to_vec();
+        file[18] = 39;
+        assert_eq!(read(&file), refused(3, 0));
+    }
+
+    #[test]
+    fn eight_thousand_gates_are_the_most() {
+        let circuit = |count| Circuit { gates: vec![Gate::Not(1); count], ..and() };
+        assert_eq!(read(&write(&circuit(8000))), Ok(circuit(8000)));
+        assert_eq!(read(&write(&circuit(8001))), refused(3, 0));
+    }
+
+    #[test]
+    fn n_m_or_w_out_of_range_is_cause_4() {
+        assert_eq!(with(&[(22, 65)]), refused(4, 0));
+        assert_eq!(with(&[(23, 1)]), refused(4, 0));
+        assert_eq!(with(&[(24, 0)]), refused(4, 0));
+        assert_eq!(with(&[(24, 65)]), refused(4, 0));
+        assert_eq!(with(&[(26, 1), (27, 4)]), refused(4, 0));
+        assert_eq!(with(&[(26, 0), (27, 4)]), Ok(Circuit { work: 1024, ..and() }));
+    }
+
+    #[test]
+    fn the_lowest_bad_gate_is_cause_12() {
+        // A kind, a zero byte, an unused control.
+        assert_eq!(with(&[(28, 0)]), refused(12, 0));
+        assert_eq!(with(&[(37, 1)]), refused(12, 1));
+        assert_eq!(with(&[(40, 1)]), refused(12, 1));
+        // Lines that are too high.
+        assert_eq!(with(&[(46, 5)]), refused(12, 2));
+        assert_eq!(with(&[(48, 5)]), refused(12, 2));
+        assert_eq!(with(&[(50, 5)]), refused(12, 2));
+        // Equal lines.
+        assert_eq!(with(&[(46, 4)]), refused(12, 2));
+        assert_eq!(with(&[(46, 2)]), refused(12, 2));
+        assert_eq!(with(&[(48, 2)]), refused(12, 2));
+        assert_eq!(with(&[(58, 1)]), refused(12, 3));
+        assert_eq!(with(&[(60, 9), (54, 4)]), refused(12, 3));
+    }
+}
