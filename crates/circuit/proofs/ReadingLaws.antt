@@ -1,7 +1,7 @@
 -- Laws of reading a circuit file: what each test that held says. Assumes nothing.
 use Prim.Native.Nat.{ℕ, _+_, _/_, _%_, _≤_}
 use native.Mathlib.Omega.{arith}
-use mathlib.Core.Path.{_≡_, sym, ap, ap₂, _∙_}
+use mathlib.Core.Path.{_≡_, ap, ap₂, _∙_}
 use mathlib.Core.Bool.{Bool, true, _&&_}
 use mathlib.Core.List.{List, [], _∷_}
 use lib.ListN.{length}
@@ -29,6 +29,25 @@ pub record Ranged (f : List ℕ) : Type 0 where
   pub work-most : workOf f ≤ 1024
 
 module _ (f : List ℕ) where
+  -- the tests of causes 3 and 4, put together step by step
+  pub lengths-tests : {e₀ e₁ : ℕ} {gates r : Bool} → e₀ ≡ entryLength f 0 → e₁ ≡ entryLength f 1
+      → gates ≡ (eqb (e₁ % 8) 0 && leb (e₁ / 8) 8000)
+      → r ≡ (eqb e₀ headLength && gates)
+      → r ≡ lengthsFit f
+  unfolding lengthsFit
+  lengths-tests p₀ p₁ t₁ t₀ =
+      t₀ ∙ ap₂ _&&_ (ap (λ (e : ℕ). eqb e headLength) p₀) (t₁ ∙ ap (λ (e : ℕ). eqb (e % 8) 0 && leb (e / 8) 8000) p₁)
+
+  pub ranges-tests : {n m w : ℕ} {targets rest r : Bool} → n ≡ inputsOf f → m ≡ outputsOf f → w ≡ workOf f
+      → targets ≡ (leb 1 m && leb m 64)
+      → rest ≡ (targets && leb w 1024)
+      → r ≡ (leb n 64 && rest)
+      → r ≡ rangesFit f
+  unfolding rangesFit
+  ranges-tests pn pm pw t₂ t₁ t₀ =
+      let outputs = t₂ ∙ ap (λ (m : ℕ). leb 1 m && leb m 64) pm in
+      t₀ ∙ ap₂ _&&_ (ap (λ (n : ℕ). leb n 64) pn) (t₁ ∙ ap₂ _&&_ outputs (ap (λ (w : ℕ). leb w 1024) pw))
+
   -- causes 1 and 2 passed
   pub laid : tableFits 2 f ≡ true → entriesFit tags f ≡ true → Laid f
   unfolding entriesFit

@@ -13,7 +13,7 @@ use Rattle.wire.specs.Contents.{bodyOf}
 use Rattle.wire.proofs.AnswerLaws.{checked-next, led}
 use Rattle.wire.specs.declared.refusals.Refusal.the-variants as cause
 use Rattle.gate.specs.declared.gates.Gate.{Gate}
-use Rattle.gate.specs.Gates.{target, WellFormed, All}
+use Rattle.gate.specs.Gates.{target}
 use Rattle.gate.specs.GateBytes.{gateAt}
 use Rattle.gate.specs.Running.{without, undo}
 use Rattle.gate.proofs.UndoLaws.{without-append, without-few, undo-snoc, undo-length}

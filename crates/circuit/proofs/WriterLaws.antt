@@ -3,13 +3,13 @@ use Prim.Native.Nat.{ℕ, _+_, _*_, _-_, _<_, _≤_}
 use native.Mathlib.Omega.{arith}
 use native.Mathlib.Nat.{zero-add}
 use mathlib.Core.Path.{_≡_, refl, sym, ap, _∙_}
-use mathlib.Core.List.{List, [], _∷_, _++_, append-assoc, append-nil}
+use mathlib.Core.List.{List, [], _∷_, _++_, append-nil}
 use lib.ListN.{length, set, drop, replicate, length-append, length-set, drop-of-length-le}
 use lib.Seq.{sets, length-sets, sets-eq}
 use borrow.Author.Fill.{fill-none, fill-more}
 use Rattle.wire.specs.Bytes.{bytes16}
 use Rattle.wire.specs.Contents.{contentsBytes, total, Writable}
-use Rattle.wire.proofs.ListLaws.{sets-append, sets-then}
+use Rattle.wire.proofs.ListLaws.{sets-then}
 use Rattle.wire.proofs.WrittenLaws.{contents-length}
 use Rattle.gate.specs.declared.gates.Gate.{Gate}
 use Rattle.gate.specs.GateBytes.{gateBytes, gatesBytes}

@@ -1,7 +1,7 @@
 -- Reading a circuit file, check by check in the order of 01's table.
-use Prim.Native.Nat.{ℕ, _+_, _/_, _%_}
+use Prim.Native.Nat.{ℕ, _/_, _%_}
 use mathlib.Core.Bool.{Bool, _&&_}
-use mathlib.Core.List.{List, [], _∷_}
+use mathlib.Core.List.{List}
 use lib.Dec.{eqb, leb}
 use Rattle.wire.specs.Answers.{Answer, result, refuse, check, checkEach, andThen}
 use Rattle.wire.specs.Bits.{bitsFit}

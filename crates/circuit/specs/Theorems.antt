@@ -7,7 +7,7 @@ use Rattle.wire.specs.Bytes.{Bytes}
 use Rattle.circuit.specs.Circuits.{Circuit, Legal}
 use Rattle.circuit.specs.Format.{circuitFile}
 use Rattle.circuit.specs.Reading.{readCircuit}
-use Rattle.circuit.specs.RunCircuit.{runForwards, runBackwards, linesAfter}
+use Rattle.circuit.specs.RunCircuit.{runForwards, runBackwards}
 
 -- reading what was written gives it back
 abbrev pub ReadsBack : Type 0

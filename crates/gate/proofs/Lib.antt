@@ -1,6 +1,7 @@
 pub mod AllLaws
 pub mod ByteLaws
 pub mod GateLaws
+pub mod OrderCase
 pub mod ReadBackLaws
 pub mod StepLaws
 pub mod UndoLaws

@@ -38,6 +38,11 @@ controls-map f (Not t) h = tt
 controls-map f (Cnot a t) h = f a h
 controls-map f (Toffoli a b t) h = (f a (h .0), f b (h .1))
 
+-- one gate, from its target t and what it XORs in
+pub step-is : (g : Gate) (s : List ℕ) {t v w : ℕ} → t ≡ target g → v ≡ addend g s → w ≡ xorBit (bit s t) v → set s t w ≡ step g s
+unfolding step
+step-is g s {t} e₁ e₂ e₃ = ap (set s t) e₃ ∙ ap₂ (λ (k x : ℕ). set s k (xorBit (bit s k) x)) e₁ e₂
+
 pub length-step : (g : Gate) (s : List ℕ) → length (step g s) ≡ length s
 unfolding step
 length-step g s = length-set s (target g) _

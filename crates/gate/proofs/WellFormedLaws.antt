@@ -1,6 +1,6 @@
 -- Laws of well-formed gates. Assumes nothing.
 use Prim.Native.Nat.{ℕ, _<_}
-use mathlib.Core.Path.{_≡_}
+use mathlib.Core.Path.{_≡_, ap, ap₂, _∙_}
 use mathlib.Core.Logic.{_≢_}
 use mathlib.Core.Bool.{Bool, true, not, _&&_}
 use lib.Dec.{eqb, ltb}
@@ -59,6 +59,22 @@ module _ (L : ℕ) where
         first-apart = apart-true a t (both-first (not (eqb a t)) (not (eqb b t)) from-target);
         second-apart = apart-true b t (both-second (not (eqb a t)) (not (eqb b t)) from-target);
       }
+
+  -- the tests of a gate's lines, put together step by step
+  pub cnot-tests : (a t : ℕ) {below r : Bool} → below ≡ (ltb a L && ltb t L) → r ≡ (below && not (eqb a t)) → r ≡ wellFormed L (Cnot a t)
+  unfolding wellFormed
+  cnot-tests a t e₁ e₂ = e₂ ∙ ap (λ (x : Bool). x && not (eqb a t)) e₁
+
+  pub toffoli-tests : (a b t : ℕ) {controls below ends apart r : Bool}
+      → controls ≡ (ltb a L && ltb b L)
+      → below ≡ (controls && ltb t L)
+      → ends ≡ (not (eqb a t) && not (eqb b t))
+      → apart ≡ (not (eqb a b) && ends)
+      → r ≡ (below && apart)
+      → r ≡ wellFormed L (Toffoli a b t)
+  unfolding wellFormed
+  toffoli-tests a b t e₁ e₂ e₃ e₄ e₅ =
+      e₅ ∙ ap₂ _&&_ (e₂ ∙ ap (λ (x : Bool). x && ltb t L) e₁) (e₄ ∙ ap (λ (x : Bool). not (eqb a b) && x) e₃)
 
   -- gates on such lines are well formed
   pub not-formed : (t : ℕ) → t < L → WellFormed L (Not t)

@@ -1,10 +1,6 @@
 use borrow.Author.Needs.{needs}
 use Rattle.oracle.proofs.oracle_read_circuit.Statement.{statement}
 use Rattle.oracle.proofs.oracle_read_circuit.Tie as tie
-use Rattle.oracle.proofs.oracle_read_circuit.Reads as reads
-use Rattle.oracle.proofs.oracle_read_circuit.Lts as lts
-use Rattle.circuit.proofs.reader.read_circuit.Reads as read-circuit-reads
-use Rattle.oracle.proofs.refusal.Reads as refusal-reads
 use Prim.Native.Nat.{ℕ}
 use mathlib.Core.Path.{ap, _∙_}
 use Rattle.circuit.specs.declared.reader.CircuitHead.{CircuitHead}

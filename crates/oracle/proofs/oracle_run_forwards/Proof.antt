@@ -1,10 +1,6 @@
 use borrow.Author.Needs.{needs}
 use Rattle.oracle.proofs.oracle_run_forwards.Statement.{statement}
 use Rattle.oracle.proofs.oracle_run_forwards.Tie as tie
-use Rattle.oracle.proofs.oracle_run_forwards.Reads as reads
-use Rattle.oracle.proofs.oracle_run_forwards.Lts as lts
-use Rattle.circuit.proofs.runner.run_forwards.Reads as run-forwards-reads
-use Rattle.oracle.proofs.run_answer.Reads as run-answer-reads
 use mathlib.Core.Path.{ap, _∙_}
 use Rattle.oracle.specs.Exported.{exported}
 

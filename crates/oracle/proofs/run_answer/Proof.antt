@@ -1,9 +1,6 @@
 use borrow.Author.Needs.{needs}
 use Rattle.oracle.proofs.run_answer.Statement.{statement}
 use Rattle.oracle.proofs.run_answer.Tie as tie
-use Rattle.oracle.proofs.run_answer.Reads as reads
-use Rattle.oracle.proofs.run_answer.Lts as lts
-use Rattle.oracle.proofs.refusal.Reads as refusal-reads
 use mathlib.Core.Path.{sym, ap, _∙_}
 use Rattle.circuit.specs.declared.runner.Ran.{Ran}
 use Rattle.circuit.specs.RunCircuit.{ran}

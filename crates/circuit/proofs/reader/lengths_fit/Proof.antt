@@ -1,11 +1,7 @@
 use borrow.Author.Needs.{needs}
 use Rattle.circuit.proofs.reader.lengths_fit.Statement.{statement}
 use Rattle.circuit.proofs.reader.lengths_fit.Tie as tie
-use Rattle.circuit.proofs.reader.lengths_fit.Reads as reads
-use Rattle.circuit.proofs.reader.lengths_fit.Lts as lts
-use Rattle.wire.proofs.checks.both.Reads as both-reads
-use Rattle.wire.proofs.contents.entry_length.Reads as entry-length-reads
-use Rattle.circuit.specs.Reading.{lengthsFit}
+use Rattle.circuit.proofs.ReadingLaws.{lengths-tests}
 
 entry-length-requires : tie.Need-entry-length-requires
 entry-length-requires c κs = search needs
@@ -23,8 +19,7 @@ both-requires-2 : tie.Need-both-requires-2
 both-requires-2 c κs = search needs
 
 returns : tie.Need-returns
-unfolding lengthsFit
-returns c = cc
+returns c = lengths-tests (c .before .before .before .before .before .args .file .now) (c .before .before .before .entry-length .ensures) (c .before .before .entry-length2 .ensures) (c .before .both .ensures) (c .both2 .ensures)
 
 pub lengths-fit-spec : {M : Type 1} → statement M
 lengths-fit-spec =

@@ -6,14 +6,14 @@ use Rattle.circuit.proofs.reader.ranges_fit.Lts as lts
 use Rattle.wire.proofs.checks.both.Reads as both-reads
 use Rattle.wire.proofs.contents.body.Reads as body-reads
 use Rattle.wire.proofs.numbers.get16.Reads as get16-reads
-use Prim.Native.Nat.{ℕ, _≤_}
+use Prim.Native.Nat.{ℕ}
 use mathlib.Core.Path.{_≡_, ap, _∙_}
 use mathlib.Core.List.{List}
 use native.Mathlib.Omega.{arith}
 use lib.ListN.{length}
 use Rattle.circuit.specs.Format.{headLength}
-use Rattle.circuit.specs.Reading.{rangesFit}
-use Rattle.circuit.proofs.ReadingLaws.{head-long}
+use Rattle.circuit.proofs.ReadingLaws.{head-long, ranges-tests}
+use Rattle.wire.specs.Bytes.{at16}
 
 abbrev claims : lts.Claims
 claims = (body-reads.Asked, body-reads.Learnt, get16-reads.Asked, get16-reads.Learnt, both-reads.Asked, both-reads.Learnt)
@@ -44,8 +44,14 @@ both-requires-3 : tie.Need-both-requires-3
 both-requires-3 c κs = search needs
 
 returns : tie.Need-returns
-unfolding rangesFit
-returns c = rw (← c .before .before .before .before .before .before .body .ensures) (cc)
+returns c = let is = c .before .before .before .before .before .before .body .ensures in
+    ranges-tests (c .before .before .before .before .before .before .before .before .args .file .now)
+    (c .before .before .before .get162 .ensures ∙ ap (λ (b : List ℕ). at16 b 0) is)
+    (c .before .before .before .before .before .get16 .ensures ∙ ap (λ (b : List ℕ). at16 b 2) is)
+    (c .before .before .get163 .ensures ∙ ap (λ (b : List ℕ). at16 b 4) is)
+    (c .before .before .before .before .both .ensures)
+    (c .before .both2 .ensures)
+    (c .both3 .ensures)
 
 pub ranges-fit-spec : {M : Type 1} → statement M
 ranges-fit-spec =

@@ -1,9 +1,5 @@
 use Rattle.circuit.proofs.runner.apply_all.Statement.{statement}
 use Rattle.circuit.proofs.runner.apply_all.Tie as tie
-use Rattle.circuit.proofs.runner.apply_all.Reads as reads
-use Rattle.circuit.proofs.runner.apply_all.Lts as lts
-use Rattle.gate.proofs.gates.gate_at.Reads as gate-at-reads
-use Rattle.gate.proofs.steps.apply.Reads as apply-reads
 use borrow.Author.Needs.{needs}
 use Prim.Native.Nat.{_-_, _/_, _≤_}
 use mathlib.Core.Path.{refl, ap, _∙_}

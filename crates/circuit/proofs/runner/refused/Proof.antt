@@ -1,8 +1,6 @@
 use borrow.Author.Needs.{needs}
 use Rattle.circuit.proofs.runner.refused.Statement.{statement}
 use Rattle.circuit.proofs.runner.refused.Tie as tie
-use Rattle.circuit.proofs.runner.refused.Reads as reads
-use Rattle.circuit.proofs.runner.refused.Lts as lts
 
 enum-known-answer : tie.Need-enum-known-answer
 enum-known-answer c = search needs

@@ -1,8 +1,5 @@
 use Rattle.circuit.proofs.undoer.count_kept.Statement.{statement}
 use Rattle.circuit.proofs.undoer.count_kept.Tie as tie
-use Rattle.circuit.proofs.undoer.count_kept.Reads as reads
-use Rattle.circuit.proofs.undoer.count_kept.Lts as lts
-use Rattle.circuit.proofs.undoer.left_out.Reads as left-out-reads
 use borrow.Author.Needs.{needs}
 use Prim.Native.Nat.{_-_, _/_}
 use mathlib.Core.Path.{sym, _∙_}

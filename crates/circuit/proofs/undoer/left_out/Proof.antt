@@ -1,9 +1,6 @@
 use borrow.Author.Needs.{needs}
 use Rattle.circuit.proofs.undoer.left_out.Statement.{statement}
 use Rattle.circuit.proofs.undoer.left_out.Tie as tie
-use Rattle.circuit.proofs.undoer.left_out.Reads as reads
-use Rattle.circuit.proofs.undoer.left_out.Lts as lts
-use Rattle.gate.proofs.gates.target_at.Reads as target-at-reads
 use Prim.Native.Nat.{ℕ}
 use mathlib.Core.Path.{ap}
 use native.Mathlib.Omega.{arith}

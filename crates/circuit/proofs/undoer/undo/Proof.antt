@@ -100,7 +100,7 @@ same-length c = search needs
 
 returns-2 : tie.Need-returns-2
 returns-2 c = let a = c .before .before .before .before .before .before .before .before .before .before .before .before .before .before .args in
-    let o = undo-room (a .file .now) (a .choices .now) (a .area .now) (good (c .before .before .before .before .before .before .before .before) .from) (good (c .before .before .before .before .before .before .before .before) .was) _ (counted (c .before .before .before .before .before)) (c .before .before .before .before .if1 .taken) in
+    let o = undo-room (a .file .now) (a .choices .now) (a .area .now) (good (c .before .before .before .before .before .before .before .before) .from) (good (c .before .before .before .before .before .before .before .before) .was) _ (counted (c .before .before .before .before .before)) (omega (arith, c .before .before .before .before .if1 .taken)) in
     (o .answer, c .before .before .clear .ensures ∙ o .area-is)
 
 write-head-requires : tie.Need-write-head-requires
@@ -122,7 +122,7 @@ returns-3 c = let a = c .before .before .before .before .before .before .before 
     let g = good (c .before .before .before .before .before .before .before .before .before .before .before .before) in
     let opening = c .before .before .before .before .before .before .write-head .ensures ∙ ap (λ (h : CircuitHead). sets (a .area .now) 0 (openingBytes h)) (head (c .before .before .before .before .before .before .before .before .before)) in
     let gates = rw (c .before .before .before .before .before .before .before .before .before .before .gate-body .ensures) at (c .before .before .write-undone .ensures) in
-    let o = undo-written (a .file .now) (a .choices .now) (a .area .now) (g .from) (g .was) _ (counted (c .before .before .before .before .before .before .before .before .before)) (c .before .before .before .before .before .before .before .before .if1 .left) opening gates in
+    let o = undo-written (a .file .now) (a .choices .now) (a .area .now) (g .from) (g .was) _ (counted (c .before .before .before .before .before .before .before .before .before)) (omega (arith, c .before .before .before .before .before .before .before .before .if1 .left)) opening gates in
     (ap result (head (c .before .before .before .before .before .before .before .before .before)) ∙ o .answer, o .area-is)
 
 pub undo-spec : {M : Type 1} → statement M

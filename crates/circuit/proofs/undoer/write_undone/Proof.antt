@@ -1,8 +1,5 @@
 use Rattle.circuit.proofs.undoer.write_undone.Statement.{statement}
 use Rattle.circuit.proofs.undoer.write_undone.Tie as tie
-use Rattle.circuit.proofs.undoer.write_undone.Reads as reads
-use Rattle.circuit.proofs.undoer.write_undone.Lts as lts
-use Rattle.circuit.proofs.undoer.append_kept.Reads as append-kept-reads
 use borrow.Author.Needs.{needs}
 use Prim.Native.Nat.{_-_}
 use native.Mathlib.Omega.{arith}

@@ -1,7 +1,5 @@
 use Rattle.circuit.proofs.writer.clear.Statement.{statement}
 use Rattle.circuit.proofs.writer.clear.Tie as tie
-use Rattle.circuit.proofs.writer.clear.Reads as reads
-use Rattle.circuit.proofs.writer.clear.Lts as lts
 use borrow.Author.Needs.{needs}
 use Prim.Native.Nat.{_-_}
 use native.Mathlib.Omega.{arith}

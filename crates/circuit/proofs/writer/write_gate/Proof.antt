@@ -1,9 +1,6 @@
 use borrow.Author.Needs.{needs}
 use Rattle.circuit.proofs.writer.write_gate.Statement.{statement}
 use Rattle.circuit.proofs.writer.write_gate.Tie as tie
-use Rattle.circuit.proofs.writer.write_gate.Reads as reads
-use Rattle.circuit.proofs.writer.write_gate.Lts as lts
-use Rattle.gate.proofs.gates.put_gate.Reads as put-gate-reads
 use mathlib.Core.Path.{_∙_}
 use Rattle.circuit.proofs.WriterLaws.{put-one}
 

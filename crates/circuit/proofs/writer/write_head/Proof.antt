@@ -1,10 +1,6 @@
 use borrow.Author.Needs.{needs}
 use Rattle.circuit.proofs.writer.write_head.Statement.{statement}
 use Rattle.circuit.proofs.writer.write_head.Tie as tie
-use Rattle.circuit.proofs.writer.write_head.Reads as reads
-use Rattle.circuit.proofs.writer.write_head.Lts as lts
-use Rattle.wire.proofs.contents.write_contents.Reads as write-contents-reads
-use Rattle.wire.proofs.numbers.put16.Reads as put16-reads
 use Rattle.circuit.proofs.WriterLaws.{writable, opening-stores}
 
 cast-t6 : tie.Need-cast-t6

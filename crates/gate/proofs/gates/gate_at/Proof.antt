@@ -1,10 +1,6 @@
 use borrow.Author.Needs.{needs}
 use Rattle.gate.proofs.gates.gate_at.Statement.{statement}
 use Rattle.gate.proofs.gates.gate_at.Tie as tie
-use Rattle.gate.proofs.gates.gate_at.Reads as reads
-use Rattle.gate.proofs.gates.gate_at.Lts as lts
-use Rattle.gate.proofs.gates.gate_of.Reads as gate-of-reads
-use Rattle.wire.proofs.numbers.get16.Reads as get16-reads
 use Rattle.gate.specs.GateBytes.{gateAt}
 
 mul-at : tie.Need-mul-at

@@ -1,13 +1,6 @@
 use borrow.Author.Needs.{needs}
 use Rattle.gate.proofs.gates.gate_fits.Statement.{statement}
 use Rattle.gate.proofs.gates.gate_fits.Tie as tie
-use Rattle.gate.proofs.gates.gate_fits.Reads as reads
-use Rattle.gate.proofs.gates.gate_fits.Lts as lts
-use Rattle.gate.proofs.gates.fields_fit.Reads as fields-fit-reads
-use Rattle.gate.proofs.gates.gate_at.Reads as gate-at-reads
-use Rattle.gate.proofs.gates.well_formed.Reads as well-formed-reads
-use Rattle.wire.proofs.checks.both.Reads as both-reads
-use Rattle.wire.proofs.numbers.get16.Reads as get16-reads
 use Rattle.gate.specs.GateBytes.{gateFits}
 
 mul-at : tie.Need-mul-at

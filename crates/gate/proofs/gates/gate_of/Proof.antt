@@ -1,7 +1,5 @@
 use Rattle.gate.proofs.gates.gate_of.Statement.{statement}
 use Rattle.gate.proofs.gates.gate_of.Tie as tie
-use Rattle.gate.proofs.gates.gate_of.Reads as reads
-use Rattle.gate.proofs.gates.gate_of.Lts as lts
 use borrow.Author.Tests.{eq-eqb, ne-eqb}
 
 returns : tie.Need-returns

@@ -1,9 +1,6 @@
 use borrow.Author.Needs.{needs}
 use Rattle.gate.proofs.gates.put_fields.Statement.{statement}
 use Rattle.gate.proofs.gates.put_fields.Tie as tie
-use Rattle.gate.proofs.gates.put_fields.Reads as reads
-use Rattle.gate.proofs.gates.put_fields.Lts as lts
-use Rattle.wire.proofs.numbers.put16.Reads as put16-reads
 use mathlib.Core.Path.{_∙_}
 use native.Mathlib.Omega.{arith}
 use lib.ListN.{length-set}

@@ -1,9 +1,6 @@
 use borrow.Author.Needs.{needs}
 use Rattle.gate.proofs.gates.put_gate.Statement.{statement}
 use Rattle.gate.proofs.gates.put_gate.Tie as tie
-use Rattle.gate.proofs.gates.put_gate.Reads as reads
-use Rattle.gate.proofs.gates.put_gate.Lts as lts
-use Rattle.gate.proofs.gates.put_fields.Reads as put-fields-reads
 use Rattle.gate.specs.GateBytes.{gateBytes}
 
 enum-known-gate : tie.Need-enum-known-gate

@@ -1,10 +1,6 @@
 use borrow.Author.Needs.{needs}
 use Rattle.gate.proofs.gates.read_gate.Statement.{statement}
 use Rattle.gate.proofs.gates.read_gate.Tie as tie
-use Rattle.gate.proofs.gates.read_gate.Reads as reads
-use Rattle.gate.proofs.gates.read_gate.Lts as lts
-use Rattle.gate.proofs.gates.gate_at.Reads as gate-at-reads
-use Rattle.gate.proofs.gates.gate_fits.Reads as gate-fits-reads
 use mathlib.Core.Path.{ap, sym, _∙_}
 use Rattle.wire.specs.Answers.{result}
 use Rattle.gate.specs.GateBytes.{readGate}

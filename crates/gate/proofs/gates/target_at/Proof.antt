@@ -1,9 +1,6 @@
 use borrow.Author.Needs.{needs}
 use Rattle.gate.proofs.gates.target_at.Statement.{statement}
 use Rattle.gate.proofs.gates.target_at.Tie as tie
-use Rattle.gate.proofs.gates.target_at.Reads as reads
-use Rattle.gate.proofs.gates.target_at.Lts as lts
-use Rattle.wire.proofs.numbers.get16.Reads as get16-reads
 use mathlib.Core.Path.{sym, _∙_}
 use Rattle.gate.proofs.GateLaws.{target-field}
 

@@ -1,8 +1,6 @@
 use borrow.Author.Needs.{needs}
 use Rattle.gate.proofs.gates.target_of.Statement.{statement}
 use Rattle.gate.proofs.gates.target_of.Tie as tie
-use Rattle.gate.proofs.gates.target_of.Reads as reads
-use Rattle.gate.proofs.gates.target_of.Lts as lts
 use mathlib.Core.Path.{refl}
 use Rattle.gate.specs.Gates.{target}
 

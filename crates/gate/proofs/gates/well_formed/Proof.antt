@@ -1,13 +1,9 @@
 use borrow.Author.Needs.{needs}
 use Rattle.gate.proofs.gates.well_formed.Statement.{statement}
 use Rattle.gate.proofs.gates.well_formed.Tie as tie
-use Rattle.gate.proofs.gates.well_formed.Reads as reads
-use Rattle.gate.proofs.gates.well_formed.Lts as lts
-use Rattle.wire.proofs.checks.both.Reads as both-reads
-use mathlib.Core.Path.{refl, ap, _∙_}
-use mathlib.Core.Bool.{Bool, not, _&&_}
-use lib.Dec.{eqb}
+use mathlib.Core.Path.{refl}
 use Rattle.gate.specs.Gates.{wellFormed}
+use Rattle.gate.proofs.WellFormedLaws.{cnot-tests, toffoli-tests}
 
 enum-known-gate : tie.Need-enum-known-gate
 enum-known-gate c = search needs
@@ -62,12 +58,10 @@ unfolding wellFormed
 returns c = rw (c .before .gate .given .1) refl
 
 returns-2 : tie.Need-returns-2
-unfolding wellFormed
-returns-2 c = rw (c .before .before .before .gate2 .given .1) (cc)
+returns-2 c = rw (c .before .before .before .gate2 .given .1) (cnot-tests _ _ _ (c .before .both .ensures) (c .both2 .ensures))
 
 returns-3 : tie.Need-returns-3
-unfolding wellFormed
-returns-3 c = rw (c .before .before .before .before .before .before .gate3 .given .1) (cc)
+returns-3 c = rw (c .before .before .before .before .before .before .gate3 .given .1) (toffoli-tests _ _ _ _ (c .before .before .before .before .both3 .ensures) (c .before .before .before .both4 .ensures) (c .before .before .both5 .ensures) (c .before .both6 .ensures) (c .both7 .ensures))
 
 pub well-formed-spec : {M : Type 1} → statement M
 well-formed-spec =

@@ -1,9 +1,6 @@
 use borrow.Author.Needs.{needs}
 use Rattle.gate.proofs.steps.addend_of.Statement.{statement}
 use Rattle.gate.proofs.steps.addend_of.Tie as tie
-use Rattle.gate.proofs.steps.addend_of.Reads as reads
-use Rattle.gate.proofs.steps.addend_of.Lts as lts
-use Rattle.wire.proofs.bits.and_bits.Reads as and-bits-reads
 use mathlib.Core.Path.{refl}
 use native.Mathlib.Omega.{arith}
 use Rattle.wire.proofs.BitLaws.{bit-below}
@@ -20,7 +17,7 @@ cast-result : tie.Need-cast-result
 cast-result c = search needs
 
 shared-slice-read-result : tie.Need-shared-slice-read-result
-shared-slice-read-result c = cnot-lines _ _ _ (rw (c .before .before .gate2 .given .1) at (c .before .before .before .before .before .pre .0)) .control-below
+shared-slice-read-result c = let l = cnot-lines _ _ _ (rw (c .before .before .gate2 .given .1) at (c .before .before .before .before .before .pre .0)) in omega (arith, l .control-below, l .target-below)
 
 enum-known-gate-3 : tie.Need-enum-known-gate-3
 enum-known-gate-3 c = search needs
