@@ -3,4 +3,5 @@ pub mod FileLaws
 pub mod ReadingLaws
 pub mod RunLaws
 pub mod UndoLaws
+pub mod UndoneLaws
 pub mod WriterLaws

@@ -8,9 +8,8 @@ use lib.ListN.{length, take, drop, replicate, length-append}
 use lib.Dec.{eqb, leb}
 use lib.Seq.{sets}
 use borrow.Author.Tests.{ne-eqb, le-leb, lt-leb}
-use Rattle.wire.specs.Answers.{Answer, result, refused, refuse, check, mapAnswer}
+use Rattle.wire.specs.Answers.{Answer, result, refused, refuse, mapAnswer}
 use Rattle.wire.specs.Contents.{bodyOf}
-use Rattle.wire.proofs.AnswerLaws.{checked-next, led}
 use Rattle.wire.specs.declared.refusals.Refusal.the-variants as cause
 use Rattle.gate.specs.declared.gates.Gate.{Gate}
 use Rattle.gate.specs.Gates.{target}
@@ -221,14 +220,3 @@ module _ (f choices area : List ℕ) where
         let o = outcome (result d) (rw (e, test) refl) in
         let written : area₂ ≡ circuitFile d ++ drop (length (circuitFile d)) area = file-written area d (omega (arith, room, undo-count k q)) e₁ (e₂ ∙ ap (putGates area₁ 0) (sym undo-gates)) in
         record { answer = o .answer; area-is = written ∙ o .area-is }
-
--- the circuit that undoing writes has at most 8,000 gates
-pub undo-few : (f choices : List ℕ) (room : ℕ) (d : Circuit) → undoFile f choices room ≡ result d → length (d .gates) ≤ 8000
-unfolding undoFile
-undo-few f choices room d e =
-    let fitting : Circuit → Answer Circuit = λ (k : Circuit). check (leb (length (circuitFile (undoCircuit choices k))) room) (cause.Room (length (undoCircuit choices k .gates))) (result (undoCircuit choices k)) in
-    let l = led (readWithLines f choices) fitting d e in
-    let c : Circuit = l .from in
-    let same : result (undoCircuit choices c) ≡ result d = checked-next d (leb (length (circuitFile (undoCircuit choices c))) room) (cause.Room (length (undoCircuit choices c .gates))) (result (undoCircuit choices c)) (l .next) in
-    let is : undoCircuit choices c ≡ d = cc in
-    omega (arith, ap (λ (k : Circuit). length (k .gates)) is, undo-small f choices [] c (l .was) .gates-small)

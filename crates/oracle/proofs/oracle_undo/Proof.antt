@@ -13,7 +13,7 @@ use Rattle.wire.proofs.AnswerLaws.{came}
 use Rattle.circuit.specs.declared.reader.CircuitHead.{CircuitHead}
 use Rattle.circuit.specs.Circuits.{headOf}
 use Rattle.circuit.specs.UndoCircuit.{undoFile, undone}
-use Rattle.circuit.proofs.UndoLaws.{undo-few}
+use Rattle.circuit.proofs.UndoneLaws.{undid, undone-few}
 use Rattle.oracle.proofs.ExportLaws.{counted, fileBytes, bytes-written}
 
 abbrev claims : lts.Claims
@@ -24,7 +24,8 @@ few : (c : lts.After-struct-known claims reads.Pre reads.Post) → c .before .be
 few c =
     let a = c .before .before .before .before .before .before .before .before .before .before .before .args in
     let k = came headOf (undoFile (a .file .now) (a .choices .now) (length (a .area .now))) (c .before .before .head .given .0 .0) (sym (ap undone (c .before .before .head .given .1)) ∙ c .before .before .before .before .before .before .undo .ensures .0) in
-    omega (arith, ap (λ (h : CircuitHead). h .gates) (k .reads), undo-few (a .file .now) (a .choices .now) (length (a .area .now)) (k .from) (k .was))
+    let u = undid (a .file .now) (a .choices .now) (length (a .area .now)) (k .from) (k .was) in
+    omega (arith, ap (λ (h : CircuitHead). h .gates) (k .reads), undone-few (a .file .now) (a .choices .now) (k .from) u)
 
 undo-requires : tie.Need-undo-requires
 undo-requires c κs = search needs
