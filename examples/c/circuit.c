@@ -1,11 +1,10 @@
 /* Links liboracle.a as a loader would: reads a small circuit file, runs it on every input forwards
  * and backwards, undoes it except on its target, and shows refusals. It exits with 1 where an answer
  * is not the one that it expects. */
-#include <stdbool.h>
 #include <stdio.h>
 #include <string.h>
 
-#include "oracle.h"
+#include "check.h"
 
 /* AND of two inputs: lines 0 and 1 are the inputs, 2 is the target, 3 and 4 are work lines. */
 static const uint8_t and_circuit[] = {
@@ -35,27 +34,6 @@ static const uint8_t undone_circuit[] = {
 enum { LENGTH = sizeof and_circuit, UNDONE = sizeof undone_circuit, LINES = 5 };
 
 static const uint8_t only_the_target[LINES] = {0, 0, 1, 0, 0};
-
-static bool all_as_expected = true;
-
-static void show(const char *what, oracle_answer answer, uint64_t number, uint64_t value)
-{
-    if (answer.number == 0)
-        printf("%s: %llu\n", what, (unsigned long long)answer.value);
-    else
-        printf("%s: refused %llu %llu\n", what, (unsigned long long)answer.number,
-               (unsigned long long)answer.value);
-    if (answer.number != number || answer.value != value)
-        all_as_expected = false;
-}
-
-static void holds(bool test, const char *what)
-{
-    if (!test) {
-        printf("not as expected: %s\n", what);
-        all_as_expected = false;
-    }
-}
 
 static bool filled(const uint8_t *area, size_t length, uint8_t byte)
 {

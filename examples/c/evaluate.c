@@ -1,10 +1,9 @@
 /* Links liboracle.a as a loader would: reads a small program file, evaluates its output on every
- * input, and shows two refusals. It exits with 1 where an answer is not the one that it expects. */
-#include <stdbool.h>
+ * input, and shows refusals. It exits with 1 where an answer is not the one that it expects. */
 #include <stdio.h>
 #include <string.h>
 
-#include "oracle.h"
+#include "check.h"
 
 /* Two inputs, one output: INPUT 0, INPUT 1, AND 0 1; the output is node 2. */
 static const uint8_t and_program[] = {
@@ -18,27 +17,6 @@ static const uint8_t and_program[] = {
     5, 0, 0, 0, 1, 0,                               /* AND 0 1 */
     2, 0,                                           /* output 0 is node 2 */
 };
-
-static bool all_as_expected = true;
-
-static void show(const char *what, oracle_answer answer, uint64_t number, uint64_t value)
-{
-    if (answer.number == 0)
-        printf("%s: %llu\n", what, (unsigned long long)answer.value);
-    else
-        printf("%s: refused %llu %llu\n", what, (unsigned long long)answer.number,
-               (unsigned long long)answer.value);
-    if (answer.number != number || answer.value != value)
-        all_as_expected = false;
-}
-
-static void holds(bool test, const char *what)
-{
-    if (!test) {
-        printf("not as expected: %s\n", what);
-        all_as_expected = false;
-    }
-}
 
 int main(void)
 {

@@ -8,7 +8,7 @@ use lib.ListN.{length, set, drop, replicate, length-append, length-set, drop-of-
 use lib.Seq.{sets, length-sets, sets-eq}
 use borrow.Author.Fill.{fill-none, fill-more}
 use Rattle.wire.specs.Bytes.{bytes16}
-use Rattle.wire.specs.Contents.{contentsBytes, total, Writable}
+use Rattle.wire.specs.Contents.{tableLength, contentsBytes, total, Writable}
 use Rattle.wire.proofs.ListLaws.{sets-then}
 use Rattle.wire.proofs.WrittenLaws.{contents-length}
 use Rattle.gate.specs.declared.gates.Gate.{Gate}
@@ -30,16 +30,16 @@ writable h room s r = record { paired = refl; few = omega arith; fits = omega ar
 -- the stores of the table and of the head's numbers, one after the other, are one run
 pub opening-stores : (l : List ℕ) (h : CircuitHead) {l₁ l₂ l₃ l₄ : List ℕ}
     → l₁ ≡ sets l 0 (contentsBytes tags (lengths h))
-    → l₂ ≡ sets l₁ 22 (bytes16 (h .inputs))
-    → l₃ ≡ sets l₂ 24 (bytes16 (h .outputs))
-    → l₄ ≡ sets l₃ 26 (bytes16 (h .work))
+    → l₂ ≡ sets l₁ (tableLength 2) (bytes16 (h .inputs))
+    → l₃ ≡ sets l₂ (tableLength 2 + 2) (bytes16 (h .outputs))
+    → l₄ ≡ sets l₃ (tableLength 2 + 4) (bytes16 (h .work))
     → l₄ ≡ sets l 0 (openingBytes h)
 unfolding openingBytes
 opening-stores l h e₁ e₂ e₃ e₄ =
     let table : List ℕ = contentsBytes tags (lengths h) in
     e₄
-    ∙ ap (λ (x : List ℕ). sets x 26 (bytes16 (h .work))) (e₃ ∙ ap (λ (x : List ℕ). sets x 24 (bytes16 (h .outputs))) (e₂ ∙ ap (λ (x : List ℕ). sets x 22 (bytes16 (h .inputs))) e₁))
-    ∙ sets-then l 0 22 table (headBytes h) (omega (arith, contents-length tags (lengths h) refl))
+    ∙ ap (λ (x : List ℕ). sets x (tableLength 2 + 4) (bytes16 (h .work))) (e₃ ∙ ap (λ (x : List ℕ). sets x (tableLength 2 + 2) (bytes16 (h .outputs))) (e₂ ∙ ap (λ (x : List ℕ). sets x (tableLength 2) (bytes16 (h .inputs))) e₁))
+    ∙ sets-then l 0 (tableLength 2) table (headBytes h) (omega (arith, contents-length tags (lengths h) refl))
 
 module _ (area : List ℕ) where
   pub put-length : (k : ℕ) (gs : List Gate) → length (putGates area k gs) ≡ length area

@@ -22,7 +22,7 @@ fn refused(answer: CircuitRead) -> Ran
 {
     match answer {
         CircuitRead::Refused(why) => Ran::Refused(why),
-        CircuitRead::Good(_) => Ran::Done,
+        CircuitRead::Good(_) => Ran::Refused(Refusal::Table),
     }
 }
 

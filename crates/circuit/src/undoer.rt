@@ -34,7 +34,7 @@ fn refused(answer: CircuitRead) -> Undone
 {
     match answer {
         CircuitRead::Refused(why) => Undone::Refused(why),
-        CircuitRead::Good(head) => Undone::Written(head),
+        CircuitRead::Good(_) => Undone::Refused(Refusal::Table),
     }
 }
 

@@ -9,15 +9,18 @@ use Rattle.wire.specs.Lists.{tabulateFrom, tabulate}
 use Rattle.gate.specs.declared.gates.Gate.{Gate}
 use Rattle.gate.specs.Gates.{All}
 
+-- what holds of each gate of two lists holds of each of both together
 pub all-append : (P : Gate → Type 0) (gs hs : List Gate) → All P gs → All P hs → All P (gs ++ hs)
 all-append P [] hs a b = b
 all-append P (g ∷ gs) hs a b = (a .0, all-append P gs hs (a .1) b)
 
+-- and of each of the reversed list
 pub all-reverse : (P : Gate → Type 0) (gs : List Gate) → All P gs → All P (reverse gs)
 all-reverse P [] a = tt
 all-reverse P (g ∷ gs) a =
     subst (All P) (sym (reverse-cons g gs)) (all-append P (reverse gs) (g ∷ []) (all-reverse P gs (a .1)) (a .0, tt))
 
+-- what follows from P of each gate
 pub all-map : {P Q : Gate → Type 0} → ((g : Gate) → P g → Q g) → (gs : List Gate) → All P gs → All Q gs
 all-map f [] a = tt
 all-map f (g ∷ gs) a = (f g (a .0), all-map f gs (a .1))

@@ -33,6 +33,7 @@ addend-bit (Not t) s b = omega arith
 addend-bit (Cnot a t) s b = bit-below s b a
 addend-bit (Toffoli p q t) s b = and-bit (bit s p) (bit s q) (bit-below s b p) (bit-below s b q)
 
+-- what follows from P at each control
 pub controls-map : {P Q : ℕ → Type 0} → ((c : ℕ) → P c → Q c) → (g : Gate) → Controls P g → Controls Q g
 controls-map f (Not t) h = tt
 controls-map f (Cnot a t) h = f a h
@@ -43,6 +44,7 @@ pub step-is : (g : Gate) (s : List ℕ) {t v w : ℕ} → t ≡ target g → v �
 unfolding step
 step-is g s {t} e₁ e₂ e₃ = ap (set s t) e₃ ∙ ap₂ (λ (k x : ℕ). set s k (xorBit (bit s k) x)) e₁ e₂
 
+-- a gate keeps the number of lines
 pub length-step : (g : Gate) (s : List ℕ) → length (step g s) ≡ length s
 unfolding step
 length-step g s = length-set s (target g) _
@@ -57,6 +59,7 @@ pub step-other : (g : Gate) (s : List ℕ) (i : ℕ) → i ≢ target g → bit 
 unfolding step
 step-other g s i h = getD-set-other s (target g) i _ 0 h
 
+-- and leaves bits
 pub step-bits : (g : Gate) (s : List ℕ) → target g < length s → Bits s → Bits (step g s)
 step-bits g s h b i hi = go (ℕ-discrete i (target g))
   where
@@ -77,22 +80,26 @@ step-step g s w b =
     ap₂ xorBit (getD-set-same s t v 0 below) same ∙ xor-twice (bit s t) (addend g s) (b t below) in
     set-set s t v _ ∙ ap (set s t) back ∙ set-getD s t 0
 
+-- gates and then other gates are run as one list
 pub run-append : (gs hs : List Gate) (s : List ℕ) → run (gs ++ hs) s ≡ run hs (run gs s)
 unfolding run
 run-append [] hs s = refl
 run-append (g ∷ gs) hs s = run-append gs hs (step g s)
 
+-- running keeps the number of lines
 pub length-run : (gs : List Gate) (s : List ℕ) → length (run gs s) ≡ length s
 unfolding run
 length-run [] s = refl
 length-run (g ∷ gs) s = length-run gs (step g s) ∙ length-step g s
 
+-- gates that fit the lines still fit them after a gate, and after a run
 pub fits-step : (g : Gate) (gs : List Gate) (s : List ℕ) → Fits gs s → Fits gs (step g s)
 fits-step g gs s w = rw (length-step g s) w
 
 pub fits-run : (hs gs : List Gate) (s : List ℕ) → Fits gs s → Fits gs (run hs s)
 fits-run hs gs s w = rw (length-run hs s) w
 
+-- running leaves bits
 pub run-bits : (gs : List Gate) (s : List ℕ) → Fits gs s → Bits s → Bits (run gs s)
 unfolding run
 run-bits [] s w b = b
@@ -126,9 +133,11 @@ pub record Agree (out : ℕ → Bool) (s s′ : List ℕ) : Type 0 where
   pub long : length s ≡ length s′
   pub at : (i : ℕ) → out i ≡ false → bit s i ≡ bit s′ i
 
+-- a state agrees with itself
 pub agree-refl : (out : ℕ → Bool) (s : List ℕ) → Agree out s s
 agree-refl out s = record { long = refl; at = λ i o. refl }
 
+-- a gate that no line left out controls keeps the agreement
 agree-step : (out : ℕ → Bool) (g : Gate) (s s′ : List ℕ) → WellFormed (length s) g → Spares out g → Agree out s s′ → Agree out (step g s) (step g s′)
 agree-step out g s s′ w n a = record {
   long = length-step g s ∙ a .long ∙ sym (length-step g s′);
@@ -180,6 +189,6 @@ undone out gs s w n b =
     agree-run out (reverse kept) (run gs s) (run kept s) (fits-run gs (reverse kept) s (all-reverse _ kept fits)) (all-reverse _ kept (all-without _ out gs n)) same in
     rw (run-append gs (reverse kept) s) (subst (Agree out (run (reverse kept) (run gs s))) (backwards-undoes kept s fits b) back)
 
--- 001, Lemma 1
+-- the uncompute lemma: 001, Lemma 1
 pub uncomputes : Uncomputes
 uncomputes out gs s w n b i o = undone out gs s w n b .at i o

@@ -616,6 +616,16 @@ fn causes_together() -> Vec<Shaped> {
     ]
 }
 
+/// Fails where two files have the same name.
+#[cfg(test)]
+pub(crate) fn assert_names_differ(files: Vec<Shaped>) {
+    let mut names: Vec<String> = files.into_iter().map(|shaped| shaped.name).collect();
+    let count = names.len();
+    names.sort();
+    names.dedup();
+    assert_eq!(names.len(), count);
+}
+
 #[cfg(test)]
 mod tests {
     use super::*;
@@ -627,10 +637,6 @@ mod tests {
 
     #[test]
     fn each_name_is_given_once() {
-        let mut names: Vec<String> = all().into_iter().map(|shaped| shaped.name).collect();
-        let count = names.len();
-        names.sort();
-        names.dedup();
-        assert_eq!(names.len(), count);
+        assert_names_differ(all());
     }
 }

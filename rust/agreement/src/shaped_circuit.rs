@@ -539,6 +539,22 @@ fn causes_together() -> Vec<Shaped> {
     ]
 }
 
+/// A file of 5 lines for each cause of the reader, and the refusal. Each has the faults of the later
+/// ones too, as far as it can.
+pub fn faults() -> Vec<(Vec<u8>, (u64, u64))> {
+    let bad = gate(4, 0, 0, 0);
+    let bad_range = Circuit::new(2, 1, 1025, &[bad]);
+    let mut bad_length = bad_range.layout();
+    bad_length.bodies[0].push(0);
+    vec![
+        (WHOLE_CASE[..21].to_vec(), (1, 0)),
+        (WHOLE_CASE[..67].to_vec(), (2, 0)),
+        (bad_length.fitted().bytes(), (3, 0)),
+        (bad_range.bytes(), (4, 0)),
+        (Circuit::new(2, 1, 2, &[cnot(0, 3), bad]).bytes(), (12, 1)),
+    ]
+}
+
 #[cfg(test)]
 mod tests {
     use super::*;
@@ -550,10 +566,6 @@ mod tests {
 
     #[test]
     fn each_name_is_given_once() {
-        let mut names: Vec<String> = all().into_iter().map(|shaped| shaped.name).collect();
-        let count = names.len();
-        names.sort();
-        names.dedup();
-        assert_eq!(names.len(), count);
+        crate::shaped::assert_names_differ(all());
     }
 }

@@ -224,21 +224,13 @@ fn line_bytes() {
 #[test]
 fn causes_together() {
     let good = shaped_circuit::whole_case();
-    let bad = gate(4, 0, 0, 0);
-    let bad_gate = Circuit::new(2, 1, 2, &[cnot(0, 3), bad]);
-    let bad_range = Circuit::new(2, 1, 1025, &[bad]);
-    let mut bad_length = bad_range.layout();
-    bad_length.bodies[0].push(0);
-    let bad_length = bad_length.fitted();
-
+    let bad_gate = Circuit::new(2, 1, 2, &[cnot(0, 3), gate(4, 0, 0, 0)]);
     for lines in [&[0, 0, 0, 0, 2][..], &[0, 0], &[]] {
         let name = format!("{lines:?}");
         refuses(&name, &good.bytes(), lines, (13, 0));
-        refuses(&name, &bad_gate.bytes(), lines, (12, 1));
-        refuses(&name, &bad_range.bytes(), lines, (4, 0));
-        refuses(&name, &bad_length.bytes(), lines, (3, 0));
-        refuses(&name, &good.bytes()[..67], lines, (2, 0));
-        refuses(&name, &good.bytes()[..21], lines, (1, 0));
+        for (file, refusal) in shaped_circuit::faults() {
+            refuses(&name, &file, lines, refusal);
+        }
     }
     // The first gate is good and has not run.
     refuses("12 alone", &bad_gate.bytes(), &[1, 1, 0, 0, 0], (12, 1));

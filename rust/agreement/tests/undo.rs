@@ -249,22 +249,14 @@ fn choice_bytes() {
 #[test]
 fn causes_together() {
     let good = shaped_circuit::whole_case();
-    let bad = gate(4, 0, 0, 0);
-    let bad_gate = Circuit::new(2, 1, 2, &[cnot(0, 3), bad]);
-    let bad_range = Circuit::new(2, 1, 1025, &[bad]);
-    let mut bad_length = bad_range.layout();
-    bad_length.bodies[0].push(0);
-    let bad_length = bad_length.fitted();
-
+    let bad_gate = Circuit::new(2, 1, 2, &[cnot(0, 3), gate(4, 0, 0, 0)]);
     // refuses lends areas that are long enough and areas that are not.
     for choices in [&[0, 0, 0, 0, 2][..], &[0, 0], &[]] {
         let name = format!("{choices:?}");
         refuses(&name, &good.bytes(), choices, (13, 0));
-        refuses(&name, &bad_gate.bytes(), choices, (12, 1));
-        refuses(&name, &bad_range.bytes(), choices, (4, 0));
-        refuses(&name, &bad_length.bytes(), choices, (3, 0));
-        refuses(&name, &good.bytes()[..67], choices, (2, 0));
-        refuses(&name, &good.bytes()[..21], choices, (1, 0));
+        for (file, refusal) in shaped_circuit::faults() {
+            refuses(&name, &file, choices, refusal);
+        }
     }
     refuses("12, with good choices", &bad_gate.bytes(), &[0; 5], (12, 1));
     // A gate that would be left out is checked all the same.
