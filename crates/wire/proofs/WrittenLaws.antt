@@ -32,7 +32,7 @@ abbrev entry : ℕ → ℕ → ℕ → List ℕ
 entry t start l = bytes16 t ++ (bytes32 start ++ bytes32 l)
 
 -- the entries of these tags and lengths stand between pre and rest, and their bodies end with the file
-record Run (tags lengths pre rest : List ℕ) (i start : ℕ) : Type 0 where
+record Stand (tags lengths pre rest : List ℕ) (i start : ℕ) : Type 0 where
   placed : length pre ≡ 2 + 10 * i
   paired : length lengths ≡ length tags
   tagged : (j : ℕ) → getD tags j 0 < 65536
@@ -40,14 +40,14 @@ record Run (tags lengths pre rest : List ℕ) (i start : ℕ) : Type 0 where
   ends : length pre + 10 * length tags + length rest ≡ start + total lengths
 
 -- the file in which they stand there
-abbrev run : List ℕ → List ℕ → List ℕ → List ℕ → ℕ → List ℕ
-run tags lengths pre rest start = pre ++ (entriesBytes tags lengths start ++ rest)
+abbrev fileWith : List ℕ → List ℕ → List ℕ → List ℕ → ℕ → List ℕ
+fileWith tags lengths pre rest start = pre ++ (entriesBytes tags lengths start ++ rest)
 
-module _ {t l : ℕ} {ts ls pre rest : List ℕ} {i start : ℕ} (r : Run (t ∷ ts) (l ∷ ls) pre rest i start) where
+module _ {t l : ℕ} {ts ls pre rest : List ℕ} {i start : ℕ} (r : Stand (t ∷ ts) (l ∷ ls) pre rest i start) where
   -- behind the first entry stand the others
-  run-next : Run ts ls (pre ++ entry t start l) rest (suc i) (start + l)
+  stand-next : Stand ts ls (pre ++ entry t start l) rest (suc i) (start + l)
   unfolding total
-  run-next =
+  stand-next =
       let n : length (pre ++ entry t start l) ≡ length pre + 10 = length-append pre (entry t start l) in
       record {
         placed = omega arith;
@@ -58,30 +58,30 @@ module _ {t l : ℕ} {ts ls pre rest : List ℕ} {i start : ℕ} (r : Run (t ∷
       }
 
   -- in the same file
-  run-same : run ts ls (pre ++ entry t start l) rest (start + l) ≡ run (t ∷ ts) (l ∷ ls) pre rest start
+  stand-same : fileWith ts ls (pre ++ entry t start l) rest (start + l) ≡ fileWith (t ∷ ts) (l ∷ ls) pre rest start
   unfolding entriesBytes
-  run-same = append-assoc pre (entry t start l) (entriesBytes ts ls (start + l) ++ rest)
+  stand-same = append-assoc pre (entry t start l) (entriesBytes ts ls (start + l) ++ rest)
 
   -- the first entry reads back
-  run-tag : entryTag (run (t ∷ ts) (l ∷ ls) pre rest start) i ≡ t
+  stand-tag : entryTag (fileWith (t ∷ ts) (l ∷ ls) pre rest start) i ≡ t
   unfolding entriesBytes
-  run-tag = rw (← r .placed) (at16-in pre (bytes32 start ++ (bytes32 l ++ (entriesBytes ts ls (start + l) ++ rest))) t (r .tagged 0))
+  stand-tag = rw (← r .placed) (at16-in pre (bytes32 start ++ (bytes32 l ++ (entriesBytes ts ls (start + l) ++ rest))) t (r .tagged 0))
 
-  run-start : entryStart (run (t ∷ ts) (l ∷ ls) pre rest start) i ≡ start
+  stand-start : entryStart (fileWith (t ∷ ts) (l ∷ ls) pre rest start) i ≡ start
   unfolding entriesBytes
-  run-start = rw (← r .placed) (at32-after pre (entriesBytes (t ∷ ts) (l ∷ ls) start ++ rest) 2 ∙ number32 start (omega arith))
+  stand-start = rw (← r .placed) (at32-after pre (entriesBytes (t ∷ ts) (l ∷ ls) start ++ rest) 2 ∙ number32 start (omega arith))
 
-  run-length : entryLength (run (t ∷ ts) (l ∷ ls) pre rest start) i ≡ l
+  stand-length : entryLength (fileWith (t ∷ ts) (l ∷ ls) pre rest start) i ≡ l
   unfolding entriesBytes total
-  run-length = rw (← r .placed) (at32-after pre (entriesBytes (t ∷ ts) (l ∷ ls) start ++ rest) 6 ∙ number32 l (omega arith))
+  stand-length = rw (← r .placed) (at32-after pre (entriesBytes (t ∷ ts) (l ∷ ls) start ++ rest) 6 ∙ number32 l (omega arith))
 
 -- the entries are found in order
-run-fits : (ts ls : List ℕ) {pre rest : List ℕ} {i start : ℕ} → Run ts ls pre rest i start → entriesFrom ts i start (run ts ls pre rest start) ≡ true
+stand-fits : (ts ls : List ℕ) {pre rest : List ℕ} {i start : ℕ} → Stand ts ls pre rest i start → entriesFrom ts i start (fileWith ts ls pre rest start) ≡ true
 unfolding entriesFrom entriesBytes total
-run-fits [] [] {pre} {rest} {start = start} r = eq-eqb start (length (pre ++ rest)) (omega (arith, length-append pre rest))
-run-fits [] (l ∷ ls) r = absurd (omega arith)
-run-fits (t ∷ ts) [] r = absurd (omega arith)
-run-fits (t ∷ ts) (l ∷ ls) r = rw (eq-eqb _ _ (run-tag r), eq-eqb _ _ (run-start r), run-length r, ← run-same r) (run-fits ts ls (run-next r))
+stand-fits [] [] {pre} {rest} {start = start} r = eq-eqb start (length (pre ++ rest)) (omega (arith, length-append pre rest))
+stand-fits [] (l ∷ ls) r = absurd (omega arith)
+stand-fits (t ∷ ts) [] r = absurd (omega arith)
+stand-fits (t ∷ ts) (l ∷ ls) r = rw (eq-eqb _ _ (stand-tag r), eq-eqb _ _ (stand-start r), stand-length r, ← stand-same r) (stand-fits ts ls (stand-next r))
 
 -- where entry i says that its body starts, and how long it says that it is
 record Told (f : List ℕ) (i start l : ℕ) : Type 0 where
@@ -89,15 +89,15 @@ record Told (f : List ℕ) (i start l : ℕ) : Type 0 where
   long : entryLength f i ≡ l
 
 -- each entry reads back
-run-told : (ts ls : List ℕ) {pre rest : List ℕ} {i start : ℕ} → Run ts ls pre rest i start → (j : ℕ) → j < length ts
-    → Told (run ts ls pre rest start) (i + j) (start + total (take j ls)) (getD ls j 0)
+stand-told : (ts ls : List ℕ) {pre rest : List ℕ} {i start : ℕ} → Stand ts ls pre rest i start → (j : ℕ) → j < length ts
+    → Told (fileWith ts ls pre rest start) (i + j) (start + total (take j ls)) (getD ls j 0)
 unfolding total
-run-told [] ls r j h = absurd (omega arith)
-run-told (t ∷ ts) [] r j h = absurd (omega arith)
-run-told (t ∷ ts) (l ∷ ls) {i = i} {start = start} r zero h = rw (add-zero i, add-zero start) (record { starts = run-start r; long = run-length r })
-run-told (t ∷ ts) (l ∷ ls) {i = i} {start = start} r (suc j) h =
+stand-told [] ls r j h = absurd (omega arith)
+stand-told (t ∷ ts) [] r j h = absurd (omega arith)
+stand-told (t ∷ ts) (l ∷ ls) {i = i} {start = start} r zero h = rw (add-zero i, add-zero start) (record { starts = stand-start r; long = stand-length r })
+stand-told (t ∷ ts) (l ∷ ls) {i = i} {start = start} r (suc j) h =
     let n : i + suc j ≡ suc i + j = omega arith in
-    rw (n, ← add-assoc start l (total (take j ls)), ← run-same r) (run-told ts ls (run-next r) j (omega arith))
+    rw (n, ← add-assoc start l (total (take j ls)), ← stand-same r) (stand-told ts ls (stand-next r) j (omega arith))
 
 -- a written table whose numbers fit their fields, with the bodies behind it
 pub record Whole (tags lengths rest : List ℕ) : Type 0 where
@@ -109,8 +109,8 @@ pub record Whole (tags lengths rest : List ℕ) : Type 0 where
 
 module _ {tags lengths rest : List ℕ} (w : Whole tags lengths rest) where
   -- its entries stand behind their number
-  whole-run : Run tags lengths (bytes16 (length tags)) rest 0 (tableLength (length tags))
-  whole-run = record { placed = refl; paired = w .paired; tagged = w .tagged; small = w .small; ends = omega arith }
+  whole-stand : Stand tags lengths (bytes16 (length tags)) rest 0 (tableLength (length tags))
+  whole-stand = record { placed = refl; paired = w .paired; tagged = w .tagged; small = w .small; ends = omega arith }
 
   -- the table is found whole
   pub table-back : tableFits (length tags) (contentsBytes tags lengths ++ rest) ≡ true
@@ -125,11 +125,11 @@ module _ {tags lengths rest : List ℕ} (w : Whole tags lengths rest) where
   -- its entries are found in order
   pub entries-back : entriesFit tags (contentsBytes tags lengths ++ rest) ≡ true
   unfolding entriesFit contentsBytes
-  entries-back = run-fits tags lengths whole-run
+  entries-back = stand-fits tags lengths whole-stand
 
   told-back : (i : ℕ) → i < length tags → Told (contentsBytes tags lengths ++ rest) i (tableLength (length tags) + total (take i lengths)) (getD lengths i 0)
   unfolding contentsBytes
-  told-back i h = rw zero-add at (run-told tags lengths whole-run i h)
+  told-back i h = rw zero-add at (stand-told tags lengths whole-stand i h)
 
   -- body i starts where the bodies before it end
   pub start-back : (i : ℕ) → i < length tags → entryStart (contentsBytes tags lengths ++ rest) i ≡ tableLength (length tags) + total (take i lengths)
