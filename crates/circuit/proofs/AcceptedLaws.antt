@@ -14,7 +14,7 @@ use Rattle.wire.specs.Contents.{tableFits, entriesFit, bodyOf}
 use Rattle.wire.specs.Lists.{tabulate}
 use Rattle.wire.specs.declared.refusals.Refusal.{Refusal}
 use Rattle.wire.specs.declared.refusals.Refusal.the-variants as cause
-use Rattle.wire.proofs.AnswerLaws.{checked, checked-next, Came, came, came-refused, led, Never, never-result, never-check, never-then}
+use Rattle.wire.proofs.AnswerLaws.{checked, checked-next, same-result, Came, came, came-refused, led, Never, never-result, never-check, never-then}
 use Rattle.wire.proofs.BitLaws.{bits-count, bits-are}
 use Rattle.wire.proofs.CheckLaws.{all-below}
 use Rattle.wire.proofs.ListLaws.{tabulate-length}
@@ -52,7 +52,7 @@ accepted f c e =
       head = h;
       headed = headed f h (l .was);
       gates-fit = all-below fits (h .gates) (checked c each why (result (circuitOf h body)) (l .next));
-      is = (cc);
+      is = sym (same-result (circuitOf h body) c same);
     }
 
 module _ (f : List ℕ) (c : Circuit) (a : Accepted f c) where
@@ -108,7 +108,7 @@ with-lines f lines c e =
     let k : Circuit = l .from in
     let same : result k ≡ result c = checked-next c (bitsFit (lineCount k) lines) cause.LineBytes (result k) (l .next) in
     let test : bitsFit (lineCount k) lines ≡ true = checked c (bitsFit (lineCount k) lines) cause.LineBytes (result k) (l .next) in
-    let is : k ≡ c = cc in
+    let is : k ≡ c = same-result k c same in
     record {
       reads = l .was ∙ same;
       count = bits-count (lineCount k) lines test ∙ ap lineCount is;

@@ -1,7 +1,7 @@
 -- Laws of reading a circuit file: what each test that held says. Assumes nothing.
 use Prim.Native.Nat.{ℕ, _+_, _/_, _%_, _≤_}
 use native.Mathlib.Omega.{arith}
-use mathlib.Core.Path.{_≡_, ap, ap₂, _∙_}
+use mathlib.Core.Path.{_≡_, refl, sym, ap, ap₂, _∙_}
 use mathlib.Core.Bool.{Bool, true, _&&_}
 use mathlib.Core.List.{List, [], _∷_}
 use lib.ListN.{length}
@@ -11,7 +11,7 @@ use Rattle.wire.specs.Answers.{Answer, result, check}
 use Rattle.wire.specs.Checks.{lowest}
 use Rattle.wire.specs.Contents.{tableLength, tableFits, entriesFit, entryLength, bodyOf}
 use Rattle.wire.specs.declared.refusals.Refusal.the-variants as cause
-use Rattle.wire.proofs.AnswerLaws.{checked, checked-next}
+use Rattle.wire.proofs.AnswerLaws.{checked, checked-next, same-result}
 use Rattle.wire.proofs.CheckLaws.{both-first, both-second}
 use Rattle.wire.proofs.ContentsLaws.{table-whole, body-length, entry-first, entries-end}
 use Rattle.gate.specs.GateBytes.{gateFits}
@@ -47,6 +47,12 @@ module _ (f : List ℕ) where
   ranges-tests pn pm pw t₂ t₁ t₀ =
       let outputs = t₂ ∙ ap (λ (m : ℕ). leb 1 m && leb m 64) pm in
       t₀ ∙ ap₂ _&&_ (ap (λ (n : ℕ). leb n 64) pn) (t₁ ∙ ap₂ _&&_ outputs (ap (λ (w : ℕ). leb w 1024) pw))
+
+  -- the numbers of the head, each as it was read
+  pub head-read : {n m w g : ℕ} → n ≡ inputsOf f → m ≡ outputsOf f → w ≡ workOf f → g ≡ gatesOf f
+      → _≡_ {A = CircuitHead} (record { inputs = n; outputs = m; work = w; gates = g }) (headIn f)
+  unfolding headIn
+  head-read pn pm pw pg = rw (pn, pm, pw, pg) refl
 
   -- causes 1 and 2 passed
   pub laid : tableFits 2 f ≡ true → entriesFit tags f ≡ true → Laid f
@@ -120,7 +126,6 @@ module _ (f : List ℕ) where
       let e₂ : entries ≡ result h = checked-next h (tableFits 2 f) cause.Table entries e in
       let e₃ : lengths ≡ result h = checked-next h (entriesFit tags f) cause.Contents lengths e₂ in
       let e₄ : ranges ≡ result h = checked-next h (lengthsFit f) cause.BodyLength ranges e₃ in
-      let same : result (headIn f) ≡ result h = checked-next h (rangesFit f) cause.Range (result (headIn f)) e₄ in
       let first : tableFits 2 f ≡ true = checked h (tableFits 2 f) cause.Table entries e in
       let second : entriesFit tags f ≡ true = checked h (entriesFit tags f) cause.Contents lengths e₂ in
       record {
@@ -128,7 +133,7 @@ module _ (f : List ℕ) where
         entries = second;
         sized = sized (laid first second) (checked h (lengthsFit f) cause.BodyLength ranges e₃);
         ranged = ranged (checked h (rangesFit f) cause.Range (result (headIn f)) e₄);
-        is = (cc);
+        is = sym (same-result (headIn f) h (checked-next h (rangesFit f) cause.Range (result (headIn f)) e₄));
       }
 
   module _ {h : CircuitHead} (a : Headed h) where

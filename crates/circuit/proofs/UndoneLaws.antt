@@ -11,7 +11,7 @@ use Rattle.wire.specs.Answers.{Answer, result, check}
 use Rattle.wire.specs.Bits.{bit}
 use Rattle.wire.specs.declared.refusals.Refusal.{Refusal}
 use Rattle.wire.specs.declared.refusals.Refusal.the-variants as cause
-use Rattle.wire.proofs.AnswerLaws.{checked-next, led}
+use Rattle.wire.proofs.AnswerLaws.{checked-next, same-result, led}
 use Rattle.gate.specs.Gates.{WellFormed}
 use Rattle.gate.specs.Running.{run, undo, without}
 use Rattle.gate.proofs.AllLaws.{all-reverse}
@@ -40,7 +40,7 @@ undid f choices room d e =
     let k : Circuit = undoCircuit choices (l .from) in
     let why : Refusal = cause.Room (length (k .gates)) in
     let same : result k ≡ result d = checked-next d (leb (length (circuitFile k)) room) why (result k) (l .next) in
-    record { from = l .from; reads = l .was; is = (cc) }
+    record { from = l .from; reads = l .was; is = same-result k d same }
 
 module _ (f choices : List ℕ) (d : Circuit) (u : Undid f choices d) where
   -- the circuit written is legal
@@ -75,7 +75,7 @@ unfolding undoCircuit
 undo-restores f choices room c d s e r spares long bits i free =
     let u = undid f choices room d e in
     let w = with-lines f choices (u .from) (u .reads) in
-    let same : u .from ≡ c = cc (w .reads, r) in
+    let same : u .from ≡ c = same-result (u .from) c (sym (w .reads) ∙ r) in
     let gates : undo (chosen choices) (c .gates) ≡ d .gates = ap (λ (k : Circuit). undoCircuit choices k .gates) (sym same) ∙ ap (λ (k : Circuit). k .gates) (u .is) in
     let fits = rw (← long) at (formed f c (accepted f c r)) in
     let out : chosen choices i ≡ false = ne-eqb (bit choices i) 1 (omega (arith, free)) in

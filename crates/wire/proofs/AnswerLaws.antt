@@ -20,6 +20,10 @@ module _ {A : Type 0} (a : A) (test : Bool) (why : Refusal) (next : Answer A) wh
   pub checked-next : check test why next ≡ result a → next ≡ result a
   checked-next e = simp (checked e) at e
 
+-- equal results have equal values
+pub same-result : {A : Type 0} (a b : A) → _≡_ {A = Answer A} (result a) (result b) → a ≡ b
+same-result a b e = cc
+
 module _ {A B : Type 0} (g : A → B) where
   -- an answer whose values g reads is a result where it reads as one
   pub record Came (x : Answer A) (b : B) : Type 0 where

@@ -12,8 +12,9 @@ use mathlib.Core.List.{List}
 use native.Mathlib.Omega.{arith}
 use lib.ListN.{length}
 use Rattle.circuit.specs.Format.{headLength}
-use Rattle.circuit.specs.Reading.{headIn}
-use Rattle.circuit.proofs.ReadingLaws.{head-long}
+use Rattle.circuit.proofs.ReadingLaws.{head-long, head-read}
+use Prim.Native.Nat.{_/_}
+use Rattle.wire.specs.Bytes.{at16}
 
 abbrev claims : lts.Claims
 claims = (body-reads.Asked, body-reads.Learnt, get16-reads.Asked, get16-reads.Learnt, entry-length-reads.Asked, entry-length-reads.Learnt)
@@ -50,8 +51,12 @@ cast-t10 : tie.Need-cast-t10
 cast-t10 c = search needs
 
 returns : tie.Need-returns
-unfolding headIn
-returns c = rw (← c .before .before .before .before .body .ensures) (cc)
+returns c = let is = c .before .before .before .before .body .ensures in
+    head-read (c .before .before .before .before .before .before .args .file .now)
+    (c .before .before .before .get16 .ensures ∙ ap (λ (b : List ℕ). at16 b 0) is)
+    (c .before .before .get162 .ensures ∙ ap (λ (b : List ℕ). at16 b 2) is)
+    (c .before .get163 .ensures ∙ ap (λ (b : List ℕ). at16 b 4) is)
+    (ap (λ (n : ℕ). n / 8) (c .entry-length .ensures))
 
 pub head-in-spec : {M : Type 1} → statement M
 head-in-spec =
