@@ -16,7 +16,7 @@ use Rattle.wire.proofs.BitLaws.{bits-count, bits-are}
 use Rattle.program.specs.declared.node.Node.{Node}
 use Rattle.program.specs.declared.reader.Head.{Head}
 use Rattle.program.specs.Exprs.{ZERO, value}
-use Rattle.program.specs.Nodes.{nodeAt}
+use Rattle.program.specs.Nodes.{nodeAt, nodesIn}
 use Rattle.program.specs.Programs.{outputTree, outputValue, nodeValues}
 use Rattle.program.specs.Reading.{inputsOf, outputsOf, nodesOf, outputAt, programOf, readProgram}
 use Rattle.program.specs.Trees.{trees}
@@ -24,7 +24,7 @@ use Rattle.program.proofs.AcceptedLaws.{Read, nodes-length, outputs-length, out
 use Rattle.program.proofs.ReadingLaws.{nodes-counted, outputs-long}
 use Rattle.program.proofs.ValueLaws.{values-length, values-at}
 use Rattle.evaluate.specs.Evaluating.{evaluateProgram, evaluateFile, evaluateOf}
-use Rattle.evaluate.specs.Filling.{nodesIn, Fillable}
+use Rattle.evaluate.specs.Filling.{Fillable}
 
 module _ (f list x : List ℕ) (k : ℕ) where
   -- the answer a and the value list l are those of the service's definition
@@ -103,11 +103,8 @@ module _ (f list x : List ℕ) (k : ℕ) where
       within : k < outputsOf f
       within = omega (arith, head-outputs, outputs-length f (r .accepts), q .output)
 
-      pub output-few : k < 64
-      output-few = omega (arith, within, r .accepts .outputs-most)
-
       -- the output's entry is there, and the node that it names has a value
-      pub output-there : 2 * k + 2 ≤ length (bodyOf f 2)
+      pub output-there : 2 * (k + 1) ≤ length (bodyOf f 2)
       output-there = omega (arith, within, outputs-long f (r .accepts .sized .laid), r .accepts .sized .twos)
 
       pub node-there : outputAt (bodyOf f 2) k < length list

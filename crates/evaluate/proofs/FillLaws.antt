@@ -9,11 +9,11 @@ use Rattle.wire.specs.Bits.{bit}
 use Rattle.wire.proofs.ListLaws.{drop-next, take-next, tabulate-length, tabulate-at}
 use Rattle.program.specs.declared.node.Node.{Node}
 use Rattle.program.specs.declared.node.Node.the-variants.{Zero, Input, Not, Xor, And}
-use Rattle.program.specs.Nodes.{nodeAt}
+use Rattle.program.specs.Nodes.{nodeAt, nodesIn}
 use Rattle.program.specs.Programs.{nodeValue, nodeValues}
 use Rattle.program.specs.Trees.{NodeOk}
 use Rattle.program.proofs.ValueLaws.{values-length, values-bits, value-next}
-use Rattle.evaluate.specs.Filling.{nodesIn, Valued, Fillable}
+use Rattle.evaluate.specs.Filling.{Valued, Fillable}
 
 -- an operand that has a value, which is a bit
 pub record Operand (a : ℕ) (values : List ℕ) : Type 0 where

@@ -3,14 +3,9 @@ use Prim.Native.Nat.{ℕ, _/_, _≤_}
 use mathlib.Core.List.{List}
 use lib.ListN.{length}
 use Rattle.wire.specs.Bits.{Bits}
-use Rattle.wire.specs.Lists.{tabulate}
 use Rattle.program.specs.declared.node.Node.{Node}
-use Rattle.program.specs.Nodes.{nodeAt}
+use Rattle.program.specs.Nodes.{nodesIn}
 use Rattle.program.specs.Trees.{NodeOk, TableOk}
-
--- the nodes of a node body
-abbrev pub nodesIn : List ℕ → List Node
-nodesIn body = tabulate (nodeAt body) (length body / 6)
 
 -- a node whose operands have values, all of them bits, and whose input is there
 pub record Valued (node : Node) (values inputs : List ℕ) : Type 0 where

@@ -4,10 +4,10 @@ mod values;
 use crate::values::fill_values;
 use program::reader::ProgramRead;
 use program::reader::node_body;
+use program::reader::output_at;
 use program::reader::output_body;
 use program::reader::read_program;
 use wire::bits::bits_fit;
-use wire::numbers::get16;
 use wire::refusals::Refusal;
 ghost use mathlib.Core.Path.{_≡_};
 ghost use Rattle.evaluate.specs.Evaluating.{evaluateOf, evaluated};
@@ -48,6 +48,6 @@ pub fn evaluate(file: &[u8], values: &mut [u8], inputs: &[u8], output: u64) -> E
         return Evaluated::Refused(Refusal::OutputNumber);
     }
     fill_values(node_body(file), inputs, values);
-    let node = get16(output_body(file), 2 * (output as usize)) as usize;
+    let node = output_at(output_body(file), output as usize);
     Evaluated::Value(values[node])
 }

@@ -7,7 +7,8 @@ ghost use mathlib.Core.Path.{_≡_};
 ghost use mathlib.Core.List.{_++_};
 ghost use Prim.Native.Nat.{_/_};
 ghost use lib.ListN.{length, drop};
-ghost use Rattle.evaluate.specs.Filling.{Valued, Fillable, nodesIn};
+ghost use Rattle.evaluate.specs.Filling.{Valued, Fillable};
+ghost use Rattle.program.specs.Nodes.{nodesIn};
 ghost use Rattle.program.specs.Programs.{nodeValue, nodeValues};
 
 // The value of a node, where values has those of the nodes before it.

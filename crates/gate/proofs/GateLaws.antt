@@ -1,7 +1,7 @@
 -- Laws of reading gates. Assumes nothing.
-use Prim.Native.Nat.{ℕ, _+_, _*_}
+use Prim.Native.Nat.{ℕ, _+_, _*_, _<_}
 use native.Mathlib.Omega.{arith}
-use mathlib.Core.Path.{_≡_, refl, sym, ap, _∙_}
+use mathlib.Core.Path.{_≡_, refl, sym, ap, ap₂, _∙_}
 use mathlib.Core.Bool.{true, false}
 use mathlib.Core.List.{List}
 use lib.ListN.{getD}
@@ -15,7 +15,7 @@ use Rattle.gate.specs.declared.gates.Gate.{Gate}
 use Rattle.gate.specs.declared.gates.GateRead.{GateRead}
 use Rattle.gate.specs.declared.gates.GateRead.the-variants.{Good, Bad}
 use Rattle.gate.specs.Gates.{target, wellFormed, WellFormed}
-use Rattle.gate.specs.GateBytes.{fieldsFit, gateAt, gateFits, readGate, gateRead}
+use Rattle.gate.specs.GateBytes.{gateOf, fieldsFit, gateAt, gateFits, readGate, gateRead}
 
 module _ (L : ℕ) (body : List ℕ) (i : ℕ) where
   module _ {r : GateRead} (e : gateRead r ≡ readGate L body i) where
@@ -50,3 +50,22 @@ unfolding gateAt target
 target-field body i =
     by-test (eqb (getD body (8 * i) 0) 1) (λ e. rw e refl)
     (λ e. by-test (eqb (getD body (8 * i) 0) 2) (λ f. rw (e, f) refl) (λ f. rw (e, f) refl))
+
+-- a gate is read from its eight bytes alone
+module _ (s s′ : List ℕ) (i i′ : ℕ) (same : (j : ℕ) → j < 8 → getD s (8 * i + j) 0 ≡ getD s′ (8 * i′ + j) 0) where
+  byte : (j n n′ : ℕ) → j < 8 → n ≡ 8 * i + j → n′ ≡ 8 * i′ + j → getD s n 0 ≡ getD s′ n′ 0
+  byte j n n′ h e e′ = ap (λ (m : ℕ). getD s m 0) e ∙ same j h ∙ sym (ap (λ (m : ℕ). getD s′ m 0) e′)
+
+  field : (j n n′ : ℕ) → j + 1 < 8 → n ≡ 8 * i + j → n′ ≡ 8 * i′ + j → at16 s n ≡ at16 s′ n′
+  field j n n′ h e e′ =
+      ap₂ (λ (a b : ℕ). a + 256 * b) (byte j n n′ (omega arith) e e′) (byte (j + 1) (n + 1) (n′ + 1) h (omega arith) (omega arith))
+
+  pub gate-same : gateAt s i ≡ gateAt s′ i′
+  unfolding gateAt
+  gate-same =
+      ap₂ (λ (kind a : ℕ). gateOf kind a (at16 s (8 * i + 4)) (at16 s (8 * i + 6)))
+      (byte 0 (8 * i) (8 * i′) (omega arith) (omega arith) (omega arith))
+      (field 2 (8 * i + 2) (8 * i′ + 2) (omega arith) refl refl)
+      ∙ ap₂ (gateOf (getD s′ (8 * i′) 0) (at16 s′ (8 * i′ + 2)))
+      (field 4 (8 * i + 4) (8 * i′ + 4) (omega arith) refl refl)
+      (field 6 (8 * i + 6) (8 * i′ + 6) (omega arith) refl refl)

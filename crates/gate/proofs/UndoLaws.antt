@@ -1,11 +1,13 @@
 -- Laws of leaving gates out and of undoing. Assumes nothing.
-use Prim.Native.Nat.{ℕ, _≤_}
+use Prim.Native.Nat.{ℕ, _+_, _≤_}
 use native.Mathlib.Omega.{arith}
 use mathlib.Core.Path.{_≡_, refl, sym, ap, _∙_}
 use mathlib.Core.Logic.{_≢_}
 use mathlib.Core.Bool.{Bool, true, false, false≢true}
 use mathlib.Core.List.{List, [], _∷_, _++_, reverse, reverse-append}
-use lib.ListN.{length, length-reverse}
+use lib.ListN.{length, length-append, length-reverse}
+use lib.Dec.{eqb}
+use borrow.Author.Tests.{eqb-true}
 use Rattle.gate.specs.declared.gates.Gate.{Gate}
 use Rattle.gate.specs.Gates.{target, All}
 use Rattle.gate.specs.Running.{without, undo}
@@ -40,6 +42,19 @@ without-append out (g ∷ gs) hs =
     by-test (out (target g))
     (λ e. rw e (without-append out gs hs))
     (λ e. rw e (ap (λ (l : List Gate). g ∷ l) (without-append out gs hs)))
+
+-- of two lists together as many gates remain as of each
+pub without-both : (out : ℕ → Bool) (gs hs : List Gate) → length (without out (gs ++ hs)) ≡ length (without out gs) + length (without out hs)
+without-both out gs hs = ap length (without-append out gs hs) ∙ length-append (without out gs) (without out hs)
+
+-- where line t is no gate's target, leaving it out leaves every gate
+pub without-none : (t : ℕ) (gs : List Gate) → All (λ g. t ≢ target g) gs → without (eqb t) gs ≡ gs
+unfolding without
+without-none t [] a = refl
+without-none t (g ∷ gs) a =
+    without-at (eqb t) g gs (λ (hs : List Gate). hs ≡ g ∷ gs)
+    (λ e. absurd (a .0 (eqb-true t (target g) e)))
+    (λ e. ap (λ (hs : List Gate). g ∷ hs) (without-none t gs (a .1)))
 
 single : (out : ℕ → Bool) (g : Gate) → reverse (without out (g ∷ [])) ≡ without out (g ∷ [])
 unfolding without

@@ -8,7 +8,7 @@ use lib.ListN.{length, getD, length-append, List·getD-append}
 use lib.Seq.{getD-append-seam}
 use Rattle.program.specs.declared.node.Node.{Node}
 use Rattle.program.specs.declared.node.Node.the-variants.{Zero, One, Input, Not, Xor, And}
-use Rattle.program.specs.Exprs.{Expr, ZERO, NOT, XOR, AND, InputsBelow}
+use Rattle.program.specs.Exprs.{Expr, ZERO, NOT, XOR, AND, InputsBelow, EachBelow}
 use Rattle.program.specs.Trees.{treeOf, treesFrom, trees, NodeOk, TableOk}
 
 -- a tree already made stays
@@ -63,11 +63,6 @@ unfolding trees
 trees-at n ns w i h =
     ap (λ (k : ℕ). getD (treesFrom [] ns) k ZERO) (sym (zero-add i))
     ∙ from-at n [] ns i h (rw (zero-add i) (w i h))
-
--- every input of every tree is below n
-abbrev EachBelow : ℕ → List Expr → Type 0
-EachBelow n [] = Unit {0}
-EachBelow n (e ∷ es) = InputsBelow n e × EachBelow n es
 
 each-at : (n : ℕ) (ts : List Expr) → EachBelow n ts → (k : ℕ) → InputsBelow n (getD ts k ZERO)
 each-at n [] h k = tt

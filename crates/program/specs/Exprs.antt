@@ -1,6 +1,6 @@
 -- What a node means: the expression that it stands for with its operands unfolded, its value and its size.
 use Prim.Native.Nat.{ℕ, _+_, _*_, _<_}
-use mathlib.Core.List.{List}
+use mathlib.Core.List.{List, [], _∷_}
 use Rattle.wire.specs.Bits.{xorBit, bit}
 
 -- a node unfolded: a shared operand stands once for each use
@@ -36,3 +36,8 @@ InputsBelow n (INPUT j) = j < n
 InputsBelow n (NOT a) = InputsBelow n a
 InputsBelow n (XOR a b) = InputsBelow n a × InputsBelow n b
 InputsBelow n (AND a b) = InputsBelow n a × InputsBelow n b
+
+-- every input of every expression is below n
+abbrev pub EachBelow : ℕ → List Expr → Type 0
+EachBelow n [] = Unit {0}
+EachBelow n (e ∷ es) = InputsBelow n e × EachBelow n es

@@ -1,11 +1,12 @@
 -- The nodes of a program file: six bytes each, and which of them are in order.
-use Prim.Native.Nat.{ℕ, _+_, _*_}
+use Prim.Native.Nat.{ℕ, _+_, _*_, _/_}
 use mathlib.Core.Bool.{Bool, false, cond, _&&_}
 use mathlib.Core.List.{List}
-use lib.ListN.{getD}
+use lib.ListN.{length, getD}
 use lib.Dec.{eqb, leb, ltb}
 use Rattle.wire.specs.Answers.{Answer, result, refuse, check}
 use Rattle.wire.specs.Bytes.{at16}
+use Rattle.wire.specs.Lists.{tabulate}
 use Rattle.wire.specs.declared.refusals.Refusal.the-variants as cause
 use Rattle.program.specs.declared.node.Node.{Node}
 use Rattle.program.specs.declared.node.Node.the-variants.{Zero, One, Input, Not, Xor, And}
@@ -48,6 +49,10 @@ bAt body i = at16 body (6 * i + 4)
 -- node i of a node body
 unfoldable pub nodeAt : List ℕ → ℕ → Node
 nodeAt body i = nodeOf (kindAt body i) (aAt body i) (bAt body i)
+
+-- the nodes of a node body
+abbrev pub nodesIn : List ℕ → List Node
+nodesIn body = tabulate (nodeAt body) (length body / 6)
 
 -- the test of cause 5 at node i: its zero byte is zero, and its kind and fields are right
 unfoldable pub nodeFits : ℕ → List ℕ → ℕ → Bool

@@ -8,7 +8,7 @@ use wire::contents::table_fits;
 use wire::numbers::get16;
 use wire::refusals::Refusal;
 ghost use mathlib.Core.Path.{_≡_};
-ghost use Prim.Native.Nat.{_*_, _/_};
+ghost use Prim.Native.Nat.{_+_, _*_, _/_, _≤_};
 ghost use lib.ListN.{length};
 ghost use Rattle.wire.specs.Answers.{mapAnswer};
 ghost use Rattle.wire.specs.Checks.{lowest};
@@ -16,7 +16,7 @@ ghost use Rattle.wire.specs.Contents.{bodyOf};
 ghost use Rattle.program.specs.Nodes.{nodeFits};
 ghost use Rattle.program.specs.Programs.{headOf};
 ghost use Rattle.program.specs.Layout.{Laid, Sized};
-ghost use Rattle.program.specs.Reading.{outputFits, lengthsFit, rangesFit, readBodies, readProgram, programRead};
+ghost use Rattle.program.specs.Reading.{outputAt, outputFits, lengthsFit, rangesFit, readBodies, readProgram, programRead};
 
 // How many inputs, outputs and nodes a program has.
 pub struct Head {
@@ -46,13 +46,21 @@ fn read_nodes(nodes: &[u8], inputs: usize) -> usize
     i
 }
 
+// The index of the node that output k names.
+pub fn output_at(outputs: &[u8], k: usize) -> usize
+    requires { ⌜ 2 * (k + 1) ≤ length (now outputs) ⌝ }
+    ensures { λ r. ⌜ r ≡ outputAt (now (outputs .entry)) k ⌝ }
+{
+    get16(outputs, 2 * k) as usize
+}
+
 // The lowest index of an output that names none of the nodes, or the number of outputs.
 fn read_outputs(outputs: &[u8], nodes: usize) -> usize
     ensures { λ r. ⌜ r ≡ lowest (outputFits nodes (now (outputs .entry))) (length (now (outputs .entry)) / 2) ⌝ }
 {
     let mut k = 0;
     while k < outputs.len() / 2 {
-        if nodes <= get16(outputs, 2 * k) as usize {
+        if nodes <= output_at(outputs, k) {
             return k;
         }
         k += 1;

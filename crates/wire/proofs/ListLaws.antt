@@ -1,13 +1,13 @@
 -- Laws of lists at the code's next index, i + 1, and of runs of stores. Assumes nothing.
-use Prim.Native.Nat.{ℕ, zero, suc, _+_, _<_}
+use Prim.Native.Nat.{ℕ, zero, suc, _+_, _<_, _≤_}
 use native.Mathlib.Omega.{arith}
 use native.Mathlib.Nat.{add-zero}
 use mathlib.Core.Path.{_≡_, refl, sym, ap, _∙_}
 use mathlib.Core.List.{List, [], _∷_, _++_}
 use native.Mathlib.Numerals.{add-one}
-use lib.ListN.{length, getD, take, drop, set}
+use lib.ListN.{length, getD, take, drop, set, length-set}
 use Rattle.wire.specs.Lists.{tabulateFrom, tabulate}
-use lib.Seq.{sets, drop-cons, take-suc}
+use lib.Seq.{sets, drop-cons, take-suc, getD-set-same, getD-set-other}
 
 -- one element more is dropped
 pub drop-next : {A : Type 0} (l : List A) (i : ℕ) (d : A) → i < length l → drop i l ≡ getD l i d ∷ drop (i + 1) l
@@ -27,6 +27,23 @@ sets-append l i (v ∷ vs) ws =
 -- the same where the place of the second is a number of its own
 pub sets-then : (l : List ℕ) (i j : ℕ) (vs ws : List ℕ) → j ≡ i + length vs → sets (sets l i vs) j ws ≡ sets l i (vs ++ ws)
 sets-then l i j vs ws e = ap (λ (n : ℕ). sets (sets l i vs) n ws) e ∙ sets-append l i vs ws
+
+-- a byte before those stored stays
+pub sets-before : (l : List ℕ) (i : ℕ) (vs : List ℕ) (j : ℕ) → j < i → getD (sets l i vs) j 0 ≡ getD l j 0
+sets-before l i [] j h = refl
+sets-before l i (v ∷ vs) j h = sets-before (set l i v) (suc i) vs j (omega arith) ∙ getD-set-other l i j v 0 (λ e. omega arith)
+
+-- a byte stored is found where it was stored
+pub sets-in : (l : List ℕ) (i : ℕ) (vs : List ℕ) (j : ℕ) → j < length vs → i + length vs ≤ length l → getD (sets l i vs) (i + j) 0 ≡ getD vs j 0
+sets-in l i [] j h r = absurd (omega arith)
+sets-in l i (v ∷ vs) zero h r =
+    ap (λ (n : ℕ). getD (sets l i (v ∷ vs)) n 0) (add-zero i)
+    ∙ sets-before (set l i v) (suc i) vs i (omega arith)
+    ∙ getD-set-same l i v 0 (omega arith)
+sets-in l i (v ∷ vs) (suc j) h r =
+    let e : i + suc j ≡ suc i + j = omega arith in
+    ap (λ (n : ℕ). getD (sets l i (v ∷ vs)) n 0) e
+    ∙ sets-in (set l i v) (suc i) vs j (omega arith) (omega (arith, length-set l i v))
 
 -- a list made by index has as many elements as were asked for, each where its index says
 tabulateFrom-length : {A : Type 0} (make : ℕ → A) (i k : ℕ) → length (tabulateFrom make i k) ≡ k

@@ -2,6 +2,7 @@
 //! are held against it. Each check stands in the order of the table of causes.
 
 pub mod circuit;
+pub mod construct;
 mod contents;
 pub mod evaluate;
 pub mod program;

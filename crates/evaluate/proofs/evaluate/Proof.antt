@@ -9,7 +9,7 @@ use native.Mathlib.Omega.{arith}
 use borrow.Author.Tests.{not-true, not-false}
 use Rattle.program.proofs.AcceptedLaws.{Read, read, read-refused}
 use Rattle.evaluate.specs.Evaluating.{evaluated}
-use Rattle.evaluate.proofs.EvaluateLaws.{reader-refuses, list-short, inputs-bad, output-bad, Ready, fillable, output-few, output-there, node-there, output-found}
+use Rattle.evaluate.proofs.EvaluateLaws.{reader-refuses, list-short, inputs-bad, output-bad, Ready, fillable, output-there, node-there, output-found}
 use borrow.Author.Needs.{needs}
 use Rattle.evaluate.proofs.evaluate.Statement.{statement}
 use Rattle.evaluate.proofs.evaluate.Tie as tie
@@ -21,7 +21,7 @@ use Rattle.program.proofs.reader.node_body.Reads as node-body-reads
 use Rattle.program.proofs.reader.output_body.Reads as output-body-reads
 use Rattle.program.proofs.reader.read_program.Reads as read-program-reads
 use Rattle.wire.proofs.bits.bits_fit.Reads as bits-fit-reads
-use Rattle.wire.proofs.numbers.get16.Reads as get16-reads
+use Rattle.program.proofs.reader.output_at.Reads as output-at-reads
 
 abbrev claims : lts.Claims
 claims = (
@@ -37,8 +37,8 @@ claims = (
   fill-values-reads.Learnt,
   output-body-reads.Asked,
   output-body-reads.Learnt,
-  get16-reads.Asked,
-  get16-reads.Learnt,
+  output-at-reads.Asked,
+  output-at-reads.Learnt,
 )
 
 -- the reader answered Good
@@ -55,8 +55,8 @@ ready c =
     }
 
 -- the node that was read from the output body is the output's
-named : (c : lts.After-get16 claims reads.Pre reads.Post) → c .get16 .result ≡ outputAt (bodyOf (c .before .before .before .before .before .before .before .before .before .before .before .before .before .before .before .before .before .before .before .args .file .now) 2) (c .before .before .before .before .before .before .before .before .before .before .before .before .before .before .before .before .before .before .before .args .output)
-named c = c .get16 .ensures ∙ ap (λ (l : List ℕ). outputAt l (c .before .before .before .before .before .before .before .before .before .before .before .before .before .before .before .before .before .before .before .args .output)) (c .before .output-body .ensures)
+named : (c : lts.After-output-at claims reads.Pre reads.Post) → c .output-at .result ≡ outputAt (bodyOf (c .before .before .before .before .before .before .before .before .before .before .before .before .before .before .before .before .before .before .before .args .file .now) 2) (c .before .before .before .before .before .before .before .before .before .before .before .before .before .before .before .before .before .before .before .args .output)
+named c = c .output-at .ensures ∙ ap (λ (l : List ℕ). outputAt l (c .before .before .before .before .before .before .before .before .before .before .before .before .before .before .before .before .before .before .before .args .output)) (c .before .output-body .ensures)
 
 read-program-requires : tie.Need-read-program-requires
 read-program-requires c κs = search needs
@@ -111,21 +111,13 @@ fill-values-requires c κs =
 output-body-requires : tie.Need-output-body-requires
 output-body-requires c κs = good (c .before .before .before .before .before .before .before .before .before .before .before) .accepts .sized .laid
 
-mul-get16 : tie.Need-mul-get16
-mul-get16 c =
-    let a = c .before .before .before .before .before .before .before .before .before .before .before .before .before .before .before .before .before .before .args in
-    omega (arith, output-few (a .file .now) (a .values .now) (a .inputs .now) (a .output) (good (c .before .before .before .before .before .before .before .before .before .before .before .before)) (ready (c .before .before .before .before .before .before)))
-
-get16-requires : tie.Need-get16-requires
-get16-requires c κs =
+output-at-requires : tie.Need-output-at-requires
+output-at-requires c κs =
     let a = c .before .before .before .before .before .before .before .before .before .before .before .before .before .before .before .before .before .before .args in
     rw (c .output-body .ensures) (output-there (a .file .now) (a .values .now) (a .inputs .now) (a .output) (good (c .before .before .before .before .before .before .before .before .before .before .before .before)) (ready (c .before .before .before .before .before .before)))
 
-cast-node : tie.Need-cast-node
-cast-node c = search needs
-
-slice-read-t23 : tie.Need-slice-read-t23
-slice-read-t23 c =
+slice-read-t21 : tie.Need-slice-read-t21
+slice-read-t21 c =
     let a = c .before .before .before .before .before .before .before .before .before .before .before .before .before .before .before .before .before .before .before .before .args in
     let there = node-there (a .file .now) (a .values .now) (a .inputs .now) (a .output) (good (c .before .before .before .before .before .before .before .before .before .before .before .before .before .before)) (ready (c .before .before .before .before .before .before .before .before)) in
     omega (arith, named (c .before), c .before .before .before .before .before .fill-values .kept .1 .1 .0, there)
@@ -157,9 +149,7 @@ evaluate-spec =
     node-body-requires
     fill-values-requires
     output-body-requires
-    mul-get16
-    get16-requires
-    cast-node
-    slice-read-t23
+    output-at-requires
+    slice-read-t21
     same-length
     returns-5)

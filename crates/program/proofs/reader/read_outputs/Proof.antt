@@ -18,21 +18,15 @@ abbrev μ-loop : tie.MeasureT-loop
 loop-holds : tie.Need-loop-holds Inv-loop μ-loop
 loop-holds c = passed-start _ _
 
-mul-get16 : tie.Need-mul-get16 Inv-loop μ-loop
-mul-get16 c = search needs
-
-get16-requires : tie.Need-get16-requires Inv-loop μ-loop
-get16-requires c κs = search needs
-
-cast-if1 : tie.Need-cast-if1 Inv-loop μ-loop
-cast-if1 c = search needs
+output-at-requires : tie.Need-output-at-requires Inv-loop μ-loop
+output-at-requires c κs = search needs
 
 returns : tie.Need-returns Inv-loop μ-loop
 unfolding outputFits
 returns c =
     let a = c .before .before .before .before .before .args in
     let k = c .before .before .before .loop .k in
-    sym (passed-fails _ (c .before .before .before .loop .inv) (c .before .before .loop-test .taken) (le-ltb (outputAt (a .outputs .now) k) (a .nodes) (omega (arith, c .before .get16 .ensures, c .if1 .taken))))
+    sym (passed-fails _ (c .before .before .before .loop .inv) (c .before .before .loop-test .taken) (le-ltb (outputAt (a .outputs .now) k) (a .nodes) (omega (arith, c .before .output-at .ensures, c .if1 .taken))))
 
 add-k : tie.Need-add-k Inv-loop μ-loop
 add-k c = search needs
@@ -45,7 +39,7 @@ unfolding outputFits
 loop-again c =
     let a = c .before .before .before .before .before .args in
     let k = c .before .before .before .loop .k in
-    passed-next _ (c .before .before .before .loop .inv) (c .before .before .loop-test .taken) (lt-ltb (outputAt (a .outputs .now) k) (a .nodes) (omega (arith, c .before .get16 .ensures, c .if1 .left)))
+    passed-next _ (c .before .before .before .loop .inv) (c .before .before .loop-test .taken) (lt-ltb (outputAt (a .outputs .now) k) (a .nodes) (omega (arith, c .before .output-at .ensures, c .if1 .left)))
 
 returns-2 : tie.Need-returns-2 Inv-loop μ-loop
 returns-2 c = omega (arith, passed-all _ (c .before .loop .inv) (c .loop-test .left), c .before .loop .inv .within)
@@ -57,9 +51,7 @@ read-outputs-spec =
     Inv-loop
     μ-loop
     loop-holds
-    mul-get16
-    get16-requires
-    cast-if1
+    output-at-requires
     returns
     add-k
     loop-less

@@ -1,0 +1,155 @@
+-- Laws of writing a tree's gates: what was written for the operands goes together, and there is room for each. Assumes nothing.
+use Prim.Native.Nat.{ℕ, _+_, _≤_, _<_}
+use native.Mathlib.Omega.{arith}
+use native.Mathlib.Nat.{add-zero}
+use mathlib.Core.Path.{_≡_, refl, sym, ap, _∙_}
+use mathlib.Core.List.{List, [], _∷_}
+use lib.ListN.{length}
+use Rattle.gate.specs.declared.gates.Gate.the-variants.{Not, Cnot, Toffoli}
+use Rattle.circuit.specs.Format.{fileLength}
+use Rattle.program.specs.Exprs.{Expr, ZERO, ONE, INPUT, NOT, XOR, AND}
+use Rattle.construct.specs.declared.builder.Progress.{Progress}
+use Rattle.construct.specs.Construction.{held, most, second, build}
+use Rattle.construct.specs.Counting.{gateCount}
+use Rattle.construct.specs.Writing.{treeIn, Valid, Stored, Appended, Taken, Built, Room}
+use Rattle.construct.proofs.AreaLaws.{stored-none, stored-then}
+use Rattle.construct.proofs.CountLaws.{build-length}
+use Rattle.construct.proofs.LineLaws.{most-not, most-xor-first, most-xor-second, most-and-first, most-and-second}
+use Rattle.construct.proofs.OperandLaws.{Unary, Binary}
+
+-- a tree's gates, from those of its operands
+pub built-zero : (t : ℕ) (p : Progress) (l : List ℕ) → Built ZERO t p p l l
+unfolding build held
+built-zero t p l = record { stored = stored-none (p .gates) l; free-to = sym (add-zero (p .free)) }
+
+pub built-one : {t : ℕ} {p q : Progress} {l l₁ : List ℕ} → Appended (Not t) p q l l₁ → Built ONE t p q l l₁
+unfolding build held
+built-one {p = p} w = record { stored = w .stored; free-to = w .free-to ∙ sym (add-zero (p .free)) }
+
+pub built-input : {j t : ℕ} {p q : Progress} {l l₁ : List ℕ} → Appended (Cnot j t) p q l l₁ → Built (INPUT j) t p q l l₁
+unfolding build held
+built-input {p = p} w = record { stored = w .stored; free-to = w .free-to ∙ sym (add-zero (p .free)) }
+
+pub built-not : {a : Expr} {t : ℕ} {p q r : Progress} {l l₁ l₂ : List ℕ}
+    → Appended (Not t) p q l l₁ → Built a t q r l₁ l₂ → Built (NOT a) t p r l l₂
+unfolding build held
+built-not {a} {t} w b =
+    record {
+      stored = stored-then (w .stored) (rw (w .free-to) at (b .stored));
+      free-to = b .free-to ∙ ap (λ (n : ℕ). n + held a) (w .free-to);
+    }
+
+pub built-xor : {a b : Expr} {t : ℕ} {p q r : Progress} {l l₁ l₂ : List ℕ}
+    → Built a t p q l l₁ → Built b t q r l₁ l₂ → Built (XOR a b) t p r l l₂
+unfolding build held
+built-xor v w = record { stored = stored-then (v .stored) (rw (v .free-to) at (w .stored)); free-to = omega (arith, v .free-to, w .free-to) }
+
+pub built-and : {a b : Expr} {t : ℕ} {p p′ q q′ r z : Progress} {l l₁ l₂ l₃ : List ℕ}
+    → Taken p p′ → Built a (p .free) p′ q l l₁ → Taken q q′ → Built b (q .free) q′ r l₁ l₂
+    → Appended (Toffoli (p .free) (q .free) t) r z l₂ l₃ → Built (AND a b) t p z l l₃
+unfolding build held second
+built-and {a} {b} {t} {p} {p′} {q} {q′} {r} {z} {l} {l₁} {l₂} {l₃} u v u′ w x =
+    let f : ℕ = p .free in
+    let g : ℕ = second f a in
+    let taken : q .free ≡ g = v .free-to ∙ ap (λ (n : ℕ). n + held a) (u .free-to) in
+    let one : Stored (build a f (f + 1)) (p .gates) (q .gates) l l₁ = rw (u .free-to, u .gates-to) at (v .stored) in
+    let two : Stored (build b g (g + 1)) (q .gates) (r .gates) l₁ l₂ = rw (u′ .free-to, u′ .gates-to, taken) at (w .stored) in
+    let three : Stored (Toffoli f g t ∷ []) (r .gates) (z .gates) l₂ l₃ = rw taken at (x .stored) in
+    record {
+      stored = stored-then one (stored-then two three);
+      free-to = omega (arith, x .free-to, w .free-to, u′ .free-to, taken);
+    }
+
+-- the room for node i is enough for a part of it that starts later and ends no later
+room-part : {nodes : List ℕ} {i t : ℕ} {p : Progress} {l : List ℕ} (a t′ : ℕ) (q : Progress) (l′ : List ℕ)
+    → Room nodes i t p l → Valid nodes a → t′ < q .free → length l′ ≡ length l
+    → q .gates + gateCount (treeIn nodes a) ≤ p .gates + gateCount (treeIn nodes i)
+    → q .free + most (treeIn nodes a) ≤ p .free + most (treeIn nodes i)
+    → Room nodes a t′ q l′
+room-part a t′ q l′ m ok h same g f =
+    record { valid = ok; taken = h; lines = omega (arith, m .lines, f); room = omega (arith, m .room, g, same) }
+
+-- there is room for one gate more of node i
+room-gate : {nodes : List ℕ} {i t : ℕ} {p : Progress} {l : List ℕ} (k : ℕ) (l′ : List ℕ) → Room nodes i t p l → length l′ ≡ length l
+    → k + 1 ≤ p .gates + gateCount (treeIn nodes i) → fileLength (k + 1) ≤ length l′
+room-gate k l′ m same h = omega (arith, m .room, same, h)
+
+module _ {nodes : List ℕ} {i t : ℕ} {p : Progress} {l : List ℕ} (m : Room nodes i t p l) where
+  pub room-one : treeIn nodes i ≡ ONE → fileLength (p .gates + 1) ≤ length l
+  unfolding gateCount
+  room-one e = room-gate (p .gates) l m refl (omega (arith, ap gateCount e))
+
+  pub room-input : {j : ℕ} → treeIn nodes i ≡ INPUT j → fileLength (p .gates + 1) ≤ length l
+  unfolding gateCount
+  room-input e = room-gate (p .gates) l m refl (omega (arith, ap gateCount e))
+
+  module _ {a : ℕ} (k : Unary NOT nodes i a) where
+    pub room-not : fileLength (p .gates + 1) ≤ length l
+    unfolding gateCount
+    room-not = room-gate (p .gates) l m refl (omega (arith, ap gateCount (k .is)))
+
+    pub room-under : {q : Progress} {l₁ : List ℕ} → Appended (Not t) p q l l₁ → length l₁ ≡ length l → Room nodes a t q l₁
+    unfolding gateCount
+    room-under {q} {l₁} w same =
+        room-part a t q l₁ m (k .only .valid) (omega (arith, m .taken, w .free-to)) same
+        (omega (arith, ap gateCount (k .is), w .stored .count-to))
+        (omega (arith, ap most (k .is), most-not (treeIn nodes a), w .free-to))
+
+  module _ {a b : ℕ} (k : Binary XOR nodes i a b) where
+    pub room-xor-first : Room nodes a t p l
+    unfolding gateCount
+    room-xor-first =
+        room-part a t p l m (k .first .valid) (m .taken) refl
+        (omega (arith, ap gateCount (k .is)))
+        (omega (arith, ap most (k .is), most-xor-first (treeIn nodes a) (treeIn nodes b)))
+
+    pub room-xor-second : {q : Progress} {l₁ : List ℕ} → Built (treeIn nodes a) t p q l l₁ → length l₁ ≡ length l → Room nodes b t q l₁
+    unfolding gateCount
+    room-xor-second {q} {l₁} v same =
+        room-part b t q l₁ m (k .second .valid) (omega (arith, m .taken, v .free-to)) same
+        (omega (arith, ap gateCount (k .is), v .stored .count-to, build-length (treeIn nodes a) t (p .free)))
+        (omega (arith, ap most (k .is), most-xor-second (treeIn nodes a) (treeIn nodes b), v .free-to))
+
+  module _ {a b : ℕ} (k : Binary AND nodes i a b) where
+    first-line : p .free + (1 + most (treeIn nodes a)) ≤ 65535
+    first-line = omega (arith, m .lines, ap most (k .is), most-and-first (treeIn nodes a) (treeIn nodes b))
+
+    second-line : p .free + (1 + held (treeIn nodes a) + (1 + most (treeIn nodes b))) ≤ 65535
+    second-line = omega (arith, m .lines, ap most (k .is), most-and-second (treeIn nodes a) (treeIn nodes b))
+
+    pub line-first : p .free < 65535
+    line-first = omega (arith, first-line)
+
+    pub room-and-first : {p′ : Progress} → Taken p p′ → Room nodes a (p .free) p′ l
+    unfolding gateCount
+    room-and-first {p′} u =
+        room-part a (p .free) p′ l m (k .first .valid) (omega (arith, u .free-to)) refl
+        (omega (arith, ap gateCount (k .is), u .gates-to))
+        (omega (arith, ap most (k .is), most-and-first (treeIn nodes a) (treeIn nodes b), u .free-to))
+
+    module _ {p′ q : Progress} {l₁ : List ℕ} (u : Taken p p′) (v : Built (treeIn nodes a) (p .free) p′ q l l₁) where
+      pub line-second : q .free < 65535
+      line-second = omega (arith, second-line, u .free-to, v .free-to)
+
+      module _ {q′ : Progress} (u′ : Taken q q′) where
+        pub room-and-second : length l₁ ≡ length l → Room nodes b (q .free) q′ l₁
+        unfolding gateCount
+        room-and-second same =
+            room-part b (q .free) q′ l₁ m (k .second .valid) (omega (arith, u′ .free-to)) same
+            (omega (arith, ap gateCount (k .is), u .gates-to, v .stored .count-to, build-length (treeIn nodes a) (p .free) (p′ .free), u′ .gates-to))
+            (omega (arith, ap most (k .is), most-and-second (treeIn nodes a) (treeIn nodes b), u .free-to, v .free-to, u′ .free-to))
+
+        pub room-toffoli : {r : Progress} {l₂ : List ℕ} → Built (treeIn nodes b) (q .free) q′ r l₁ l₂ → length l₂ ≡ length l → fileLength (r .gates + 1) ≤ length l₂
+        unfolding gateCount
+        room-toffoli {r} {l₂} w same =
+            room-gate (r .gates) l₂ m same
+            (omega (
+              arith,
+              ap gateCount (k .is),
+              u .gates-to,
+              v .stored .count-to,
+              build-length (treeIn nodes a) (p .free) (p′ .free),
+              u′ .gates-to,
+              w .stored .count-to,
+              build-length (treeIn nodes b) (q .free) (q′ .free),
+            ))

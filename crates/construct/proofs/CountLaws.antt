@@ -1,0 +1,118 @@
+-- Laws of counting: the counts are the lengths of what the construction writes, and the sizes bound them. Assumes nothing.
+use Prim.Native.Nat.{ℕ, _+_, _*_, _<_, _≤_}
+use native.Mathlib.Omega.{arith}
+use mathlib.Core.Path.{_≡_, refl, ap}
+use mathlib.Core.List.{List, [], _∷_, _++_}
+use lib.ListN.{length, length-append}
+use lib.Dec.{eqb}
+use borrow.Author.Tests.{eq-eqb}
+use Rattle.gate.specs.declared.gates.Gate.{Gate}
+use Rattle.gate.specs.declared.gates.Gate.the-variants.{Toffoli}
+use Rattle.gate.specs.Gates.{target}
+use Rattle.gate.specs.Running.{without, undo}
+use Rattle.gate.proofs.UndoLaws.{without-none, without-both, undo-length}
+use Rattle.program.specs.Exprs.{Expr, ZERO, ONE, INPUT, NOT, XOR, AND, size}
+use Rattle.construct.specs.Construction.{held, most, second, build, share, shares, circuit}
+use Rattle.construct.specs.Counting.{gateCount, ownCount, shareCount, sharesCount}
+use Rattle.construct.proofs.LineLaws.{most-held, build-misses}
+
+-- a tree is built by as many gates as are counted
+pub build-length : (e : Expr) (t f : ℕ) → length (build e t f) ≡ gateCount e
+unfolding build gateCount
+build-length ZERO t f = refl
+build-length ONE t f = refl
+build-length (INPUT j) t f = refl
+build-length (NOT a) t f = omega (arith, build-length a t f)
+build-length (XOR a b) t f = omega (arith, length-append (build a t f) (build b t (f + held a)), build-length a t f, build-length b t (f + held a))
+build-length (AND a b) t f =
+    let A : List Gate = build a f (f + 1) in
+    let B : List Gate = build b (second f a) (second f a + 1) in
+    let T : List Gate = Toffoli f (second f a) t ∷ [] in
+    omega (arith, length-append A (B ++ T), length-append B T, build-length a f (f + 1), build-length b (second f a) (second f a + 1))
+
+-- of the gates that build a tree into line t, those whose target is t are as many as are counted
+pub own-length : (e : Expr) (t f : ℕ) → t < f → length (without (eqb t) (build e t f)) + ownCount e ≡ gateCount e
+unfolding build gateCount ownCount second without target
+own-length ZERO t f h = refl
+own-length ONE t f h = rw (eq-eqb t t refl) refl
+own-length (INPUT j) t f h = rw (eq-eqb t t refl) refl
+own-length (NOT a) t f h = rw (eq-eqb t t refl) (omega (arith, own-length a t f h))
+own-length (XOR a b) t f h =
+    omega (arith, without-both (eqb t) (build a t f) (build b t (f + held a)), own-length a t f h, own-length b t (f + held a) (omega arith))
+own-length (AND a b) t f h =
+    let A : List Gate = build a f (f + 1) in
+    let B : List Gate = build b (second f a) (second f a + 1) in
+    let T : List Gate = Toffoli f (second f a) t ∷ [] in
+    let last : length (without (eqb t) T) ≡ 0 = rw (eq-eqb t t refl) refl in
+    omega (
+      arith,
+      without-both (eqb t) A (B ++ T),
+      without-both (eqb t) B T,
+      last,
+      ap length (without-none t A (build-misses a f (f + 1) t (omega arith) (λ p. omega arith))),
+      ap length (without-none t B (build-misses b (second f a) (second f a + 1) t (omega arith) (λ p. omega arith))),
+      build-length a f (f + 1),
+      build-length b (second f a) (second f a + 1),
+    )
+
+-- they are some of the gates
+pub own-few : (e : Expr) → ownCount e ≤ gateCount e
+own-few e = omega (arith, own-length e 0 1 (omega arith))
+
+-- a share has as many gates as are counted
+pub share-length : (e : Expr) (t f : ℕ) → t < f → length (share e t f) ≡ shareCount e
+unfolding share shareCount
+share-length e t f h =
+    let gs : List Gate = build e t f in
+    omega (arith, length-append gs (undo (eqb t) gs), undo-length (eqb t) gs, build-length e t f, own-length e t f h)
+
+-- and so have several together
+pub shares-length : (es : List Expr) (t f : ℕ) → t + length es ≤ f → length (shares es t f) ≡ sharesCount es
+unfolding shares sharesCount
+shares-length [] t f h = refl
+shares-length (e ∷ es) t f h =
+    omega (arith, length-append (share e t f) (shares es (t + 1) f), share-length e t f (omega arith), shares-length es (t + 1) f (omega arith))
+
+-- and so has a circuit
+pub circuit-length : (n : ℕ) (es : List Expr) → length (circuit n es) ≡ sharesCount es
+unfolding circuit
+circuit-length n es = shares-length es n (n + length es) (omega arith)
+
+-- a tree holds fewer lines than its size
+held-below-size : (e : Expr) → held e + 1 ≤ size e
+unfolding held size
+held-below-size ZERO = omega arith
+held-below-size ONE = omega arith
+held-below-size (INPUT j) = omega arith
+held-below-size (NOT a) = omega (arith, held-below-size a)
+held-below-size (XOR a b) = omega (arith, held-below-size a, held-below-size b)
+held-below-size (AND a b) = omega (arith, held-below-size a, held-below-size b)
+
+-- and takes fewer
+pub lines-below-size : (e : Expr) → most e + 1 ≤ size e
+lines-below-size e = omega (arith, most-held e, held-below-size e)
+
+-- a tree is built by no more gates than its size
+pub gates-within-size : (e : Expr) → gateCount e ≤ size e
+unfolding gateCount size
+gates-within-size ZERO = omega arith
+gates-within-size ONE = omega arith
+gates-within-size (INPUT j) = omega arith
+gates-within-size (NOT a) = omega (arith, gates-within-size a)
+gates-within-size (XOR a b) = omega (arith, gates-within-size a, gates-within-size b)
+gates-within-size (AND a b) = omega (arith, gates-within-size a, gates-within-size b)
+
+-- a tree of as many gates as its size has one that is not undone
+own-or-fewer : (e : Expr) → 2 * gateCount e + 1 ≤ 2 * size e + ownCount e
+unfolding gateCount ownCount size
+own-or-fewer ZERO = omega arith
+own-or-fewer ONE = omega arith
+own-or-fewer (INPUT j) = omega arith
+own-or-fewer (NOT a) = omega (arith, own-or-fewer a)
+own-or-fewer (XOR a b) = omega (arith, own-or-fewer a, own-or-fewer b)
+own-or-fewer (AND a b) = omega (arith, gates-within-size a, gates-within-size b)
+
+-- a share has fewer gates than twice the size
+pub share-within-size : (e : Expr) → shareCount e + 1 ≤ 2 * size e
+unfolding shareCount
+share-within-size e = omega (arith, own-or-fewer e, own-few e)

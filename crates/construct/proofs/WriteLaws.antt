@@ -1,0 +1,81 @@
+-- Laws of writing a share: what it asks for is enough for its two steps, and these leave it. Assumes nothing.
+use Prim.Native.Nat.{ℕ, _+_, _-_, _≤_}
+use native.Mathlib.Omega.{arith}
+use mathlib.Core.Path.{_≡_, sym, ap, ap₂, _∙_}
+use mathlib.Core.List.{List}
+use lib.ListN.{length, length-append}
+use lib.Dec.{eqb}
+use Rattle.gate.specs.declared.gates.Gate.{Gate}
+use Rattle.gate.specs.Running.{undo}
+use Rattle.program.specs.Exprs.{Expr}
+use Rattle.program.specs.Nodes.{nodesIn}
+use Rattle.program.proofs.TreeLaws.{trees-below}
+use Rattle.circuit.proofs.WriterLaws.{put-length}
+use Rattle.construct.specs.declared.builder.Progress.{Progress}
+use Rattle.construct.specs.Construction.{build, share}
+use Rattle.construct.specs.Counting.{gateCount, shareCount}
+use Rattle.construct.specs.Theorems.{Apart}
+use Rattle.construct.specs.Writing.{treeIn, gatesFrom, Stored, Reversible, Built, Room, ShareRoom}
+use Rattle.construct.proofs.AreaLaws.{put-back, stored-then}
+use Rattle.construct.proofs.CountLaws.{own-few, share-length}
+use Rattle.construct.proofs.LineLaws.{build-formed}
+
+-- building takes no more gates than the share
+build-few : (e : Expr) → gateCount e ≤ shareCount e
+unfolding shareCount
+build-few e = omega (arith, own-few e)
+
+module _ {nodes : List ℕ} {i t : ℕ} {p : Progress} {area : List ℕ} (r : ShareRoom nodes i t p area) where
+  -- there is room to build
+  pub build-room : Room nodes i t p area
+  build-room =
+      record {
+        valid = r .valid;
+        taken = r .taken;
+        lines = r .lines;
+        room = omega (arith, r .room, build-few (treeIn nodes i));
+      }
+
+  -- inputs, target and work lines are apart
+  share-apart : Apart (r .valid .inputs) (treeIn nodes i) t (p .free) 65535
+  unfolding treeIn
+  share-apart =
+      record {
+        inputs = trees-below (r .valid .inputs) (nodesIn nodes) (r .valid .ordered) i;
+        behind = r .behind;
+        free = r .taken;
+        below = r .lines;
+      }
+
+  abbrev built : List Gate
+  built = build (treeIn nodes i) t (p .free)
+
+  -- a share is as long as its two parts
+  share-parts : shareCount (treeIn nodes i) ≡ length built + length (undo (eqb t) built)
+  unfolding share
+  share-parts = sym (share-length (treeIn nodes i) t (p .free) (r .taken)) ∙ length-append built (undo (eqb t) built)
+
+  module _ {q : Progress} {area₁ : List ℕ} (b : Built (treeIn nodes i) t p q area area₁) where
+    -- the gates that were built read back
+    built-back : gatesFrom area₁ (p .gates) (q .gates - p .gates) ≡ built
+    built-back =
+        let n : q .gates - p .gates ≡ length built = omega (arith, b .stored .count-to) in
+        ap₂ (λ (l : List ℕ) (k : ℕ). gatesFrom l (p .gates) k) (b .stored .area-to) n
+        ∙ put-back 65535 (omega arith) area (p .gates) built (build-formed (r .valid .inputs) (treeIn nodes i) t (p .free) 65535 share-apart)
+        (omega (arith, r .room, share-parts))
+
+    -- there is room to write them again
+    pub reverse-room : Reversible area₁ (p .gates) (q .gates) (q .gates) t
+    reverse-room =
+        let same : length area₁ ≡ length area = ap (λ (l : List ℕ). length l) (b .stored .area-to) ∙ put-length area (p .gates) built in
+        record {
+          ordered = omega (arith, b .stored .count-to);
+          before = omega arith;
+          room = rw built-back (omega (arith, r .room, share-parts, same, b .stored .count-to));
+        }
+
+    -- building and undoing write the share
+    pub share-stored : {area₂ : List ℕ} {k : ℕ} → Stored (undo (eqb t) (gatesFrom area₁ (p .gates) (q .gates - p .gates))) (q .gates) k area₁ area₂
+        → Stored (share (treeIn nodes i) t (p .free)) (p .gates) k area area₂
+    unfolding share
+    share-stored s = stored-then (b .stored) (rw built-back at s)

@@ -1,0 +1,4 @@
+pub mod Construction
+pub mod Counting
+pub mod Theorems
+pub mod Writing

@@ -1,0 +1,87 @@
+-- What is proved of the construction; the proofs are in proofs/.
+use Prim.Native.Nat.{ℕ, _+_, _≤_, _<_}
+use mathlib.Core.Path.{_≡_}
+use mathlib.Core.Logic.{_≢_}
+use mathlib.Core.List.{List, _++_}
+use lib.ListN.{length, getD, take, drop}
+use lib.Dec.{eqb}
+use Rattle.wire.specs.Bits.{xorBit, bit, Bits}
+use Rattle.gate.specs.declared.gates.Gate.{Gate}
+use Rattle.gate.specs.Gates.{WellFormed, All}
+use Rattle.gate.specs.Running.{run}
+use Rattle.gate.specs.Theorems.{Spares}
+use Rattle.program.specs.Exprs.{Expr, ZERO, value, InputsBelow, EachBelow}
+use Rattle.construct.specs.Construction.{most, build, share, shares, circuit, linesNeeded}
+
+-- inputs, target and work lines are apart: the inputs are below n, the target t is not, and the lines taken start at f, behind it, and end below L
+pub record Apart (n : ℕ) (e : Expr) (t f L : ℕ) : Type 0 where
+  pub inputs : InputsBelow n e
+  pub behind : n ≤ t
+  pub free : t < f
+  pub below : f + most e ≤ L
+
+-- the k lines from f on hold 0
+abbrev pub Zeros : ℕ → ℕ → List ℕ → Type 0
+Zeros f k s = (i : ℕ) → f ≤ i → i < f + k → bit s i ≡ 0
+
+-- after the gates of a tree, line t holds its first bit XOR the tree's value on the input lines
+abbrev pub Computes : List Gate → ℕ → Expr → ℕ → List ℕ → Type 0
+Computes gs n e t s = bit (run gs s) t ≡ xorBit (bit s t) (value e (take n s))
+
+-- 001, Theorem 1: where the lines that building takes hold 0, it computes the tree on line t
+abbrev pub BuildComputes : Type 0
+BuildComputes =
+    (n : ℕ) (e : Expr) (t f : ℕ) (s : List ℕ) → Apart n e t f (length s) → Bits s → Zeros f (most e) s → Computes (build e t f) n e t s
+
+-- from every start, building leaves every line but t and those taken as it was
+abbrev pub BuildLeaves : Type 0
+BuildLeaves = (e : Expr) (t f : ℕ) (s : List ℕ) (i : ℕ) → i ≢ t → (f ≤ i → f + most e ≤ i) → bit (run (build e t f) s) i ≡ bit s i
+
+-- the target is no control
+abbrev pub TargetNoControl : Type 0
+TargetNoControl = (n : ℕ) (e : Expr) (t f L : ℕ) → Apart n e t f L → All (Spares (eqb t)) (build e t f)
+
+-- every gate of a share is well formed on its lines
+abbrev pub ShareFormed : Type 0
+ShareFormed = (n : ℕ) (e : Expr) (t f L : ℕ) → Apart n e t f L → All (WellFormed L) (share e t f)
+
+-- every gate of a circuit is well formed on its n inputs, its targets and the work lines needed
+abbrev pub CircuitFormed : Type 0
+CircuitFormed = (n : ℕ) (es : List Expr) → EachBelow n es → All (WellFormed (n + length es + linesNeeded es)) (circuit n es)
+
+-- 001, Theorem 2: from every start, work lines zero or not, a share leaves every line but its target as it started
+abbrev pub ShareRestores : Type 0
+ShareRestores =
+    (n : ℕ) (e : Expr) (t f : ℕ) (s : List ℕ) → Apart n e t f (length s) → Bits s → (i : ℕ) → i ≢ t → bit (run (share e t f) s) i ≡ bit s i
+
+-- a start (01): one bit for each of the lines
+pub record Start (n : ℕ) (es : List Expr) (start : List ℕ) : Type 0 where
+  pub long : length start ≡ n + length es + linesNeeded es
+  pub bits : Bits start
+
+-- the shares of the first j outputs
+unfoldable pub firstShares : ℕ → List Expr → ℕ → List Gate
+firstShares n es j = shares (take j es) n (n + length es)
+
+-- the share of output j, whose target is line n + j
+unfoldable pub shareOf : ℕ → List Expr → ℕ → List Gate
+shareOf n es j = share (getD es j ZERO) (n + j) (n + length es)
+
+-- what the shares of the first j outputs leave of the lines of a start
+pub record After (n : ℕ) (es : List Expr) (j : ℕ) (start after : List ℕ) : Type 0 where
+  -- every input line and every work line is as it started
+  pub inputs : (i : ℕ) → i < n → bit after i ≡ bit start i
+  pub work : (i : ℕ) → n + length es ≤ i → bit after i ≡ bit start i
+  -- a target whose share is not over holds its first bit
+  pub waiting : (k : ℕ) → j ≤ k → k < length es → bit after (n + k) ≡ bit start (n + k)
+  -- where every work line starts at 0, a target whose share is over holds its first bit XOR its output's value on the input lines
+  pub over : Zeros (n + length es) (linesNeeded es) start → (k : ℕ) → k < j → bit after (n + k) ≡ xorBit (bit start (n + k)) (value (getD es k ZERO) (take n start))
+
+-- the shares restore the lines: one claim about the whole run, with every j in it
+pub record SharesRestore (n : ℕ) (es : List Expr) : Type 0 where
+  -- the first j shares open the circuit, and all of them are the circuit
+  pub opens : (j : ℕ) → j ≤ length es → circuit n es ≡ firstShares n es j ++ shares (drop j es) (n + j) (n + length es)
+  pub whole : firstShares n es (length es) ≡ circuit n es
+  -- each share finds the lines as the one before left them
+  pub follows : (start : List ℕ) (j : ℕ) → j < length es → run (firstShares n es (j + 1)) start ≡ run (shareOf n es j) (run (firstShares n es j) start)
+  pub holds : (start : List ℕ) → Start n es start → (j : ℕ) → j ≤ length es → After n es j start (run (firstShares n es j) start)

@@ -1,0 +1,123 @@
+-- What the functions that count and write the construction ask for, and what they leave.
+use mathlib.Core.Path.{_≡_}
+use Prim.Native.Nat.{ℕ, _+_, _-_, _/_, _≤_, _<_}
+use mathlib.Core.List.{List, [], _∷_}
+use lib.ListN.{length, getD, drop}
+use lib.Dec.{eqb}
+use Rattle.wire.specs.Lists.{tabulateFrom, tabulate}
+use Rattle.gate.specs.declared.gates.Gate.{Gate}
+use Rattle.gate.specs.GateBytes.{gateAt}
+use Rattle.gate.specs.Running.{without, undo}
+use Rattle.circuit.specs.Format.{firstGate, fileLength, putGates}
+use Rattle.program.specs.Exprs.{Expr, ZERO, size}
+use Rattle.program.specs.Nodes.{nodesIn}
+use Rattle.program.specs.Reading.{outputAt}
+use Rattle.program.specs.Trees.{trees, TableOk}
+use Rattle.construct.specs.declared.builder.Progress.{Progress}
+use Rattle.construct.specs.declared.counter.Counts.{Counts}
+use Rattle.construct.specs.declared.counter.Needs.{Needs}
+use Rattle.construct.specs.Construction.{held, most, build, circuit, linesNeeded}
+use Rattle.construct.specs.Counting.{gateCount, ownCount, shareCount, sharesCount, gatesShown}
+
+-- the tree of node i of a node body
+unfoldable pub treeIn : List ℕ → ℕ → Expr
+treeIn nodes i = getD (trees (nodesIn nodes)) i ZERO
+
+-- the trees of the outputs that an output body names
+unfoldable pub treesIn : List ℕ → List ℕ → List Expr
+treesIn nodes outputs = tabulate (λ k. treeIn nodes (outputAt outputs k)) (length outputs / 2)
+
+-- i is a node of a table in order
+pub record Valid (nodes : List ℕ) (i : ℕ) : Type 0 where
+  pub inputs : ℕ
+  pub ordered : TableOk inputs (nodesIn nodes)
+  pub inside : i < length nodes / 6
+
+-- gate i of an area
+unfoldable pub gateIn : List ℕ → ℕ → Gate
+gateIn area i = gateAt (drop firstGate area) i
+
+-- k gates of an area, from gate i on
+abbrev pub gatesFrom : List ℕ → ℕ → ℕ → List Gate
+gatesFrom area i k = tabulateFrom (gateIn area) i k
+
+-- gates are stored from gate k on; r is the number of gates then
+pub record Stored (gs : List Gate) (k r : ℕ) (old new : List ℕ) : Type 0 where
+  pub count-to : r ≡ k + length gs
+  pub area-to : new ≡ putGates old k gs
+
+-- gate i stands before gate k, and there is room to write it again as gate k where it is not left out
+pub record Repeatable (area : List ℕ) (i k out : ℕ) : Type 0 where
+  pub before : i < k
+  pub there : fileLength k ≤ length area
+  pub room : fileLength (k + length (without (eqb out) (gateIn area i ∷ []))) ≤ length area
+
+-- the gates before gate `to` stand before gate k, and there is room for the undoing of those from gate i on
+pub record Reversible (area : List ℕ) (i to k out : ℕ) : Type 0 where
+  pub ordered : i ≤ to
+  pub before : to ≤ k
+  pub room : fileLength (k + length (undo (eqb out) (gatesFrom area i (to - i)))) ≤ length area
+
+-- one gate is appended
+pub record Appended (g : Gate) (p r : Progress) (old new : List ℕ) : Type 0 where
+  pub stored : Stored (g ∷ []) (p .gates) (r .gates) old new
+  pub free-to : r .free ≡ p .free
+
+-- the lowest free line is taken
+pub record Taken (p r : Progress) : Type 0 where
+  pub gates-to : r .gates ≡ p .gates
+  pub free-to : r .free ≡ p .free + 1
+
+-- a tree is built into line t
+pub record Built (e : Expr) (t : ℕ) (p r : Progress) (old new : List ℕ) : Type 0 where
+  pub stored : Stored (build e t (p .free)) (p .gates) (r .gates) old new
+  pub free-to : r .free ≡ p .free + held e
+
+-- there are lines and room for node i: its line t is taken already
+pub record Room (nodes : List ℕ) (i t : ℕ) (p : Progress) (area : List ℕ) : Type 0 where
+  pub valid : Valid nodes i
+  pub taken : t < p .free
+  pub lines : p .free + most (treeIn nodes i) ≤ 65535
+  pub room : fileLength (p .gates + gateCount (treeIn nodes i)) ≤ length area
+
+-- the same for its share
+pub record ShareRoom (nodes : List ℕ) (i t : ℕ) (p : Progress) (area : List ℕ) : Type 0 where
+  pub valid : Valid nodes i
+  pub behind : valid .inputs ≤ t
+  pub taken : t < p .free
+  pub lines : p .free + most (treeIn nodes i) ≤ 65535
+  pub room : fileLength (p .gates + shareCount (treeIn nodes i)) ≤ length area
+
+-- there are lines and room for the shares of all outputs over n inputs
+pub record Writable (nodes outputs : List ℕ) (n : ℕ) (area : List ℕ) : Type 0 where
+  pub ordered : TableOk n (nodesIn nodes)
+  pub named : (k : ℕ) → k < length outputs / 2 → outputAt outputs k < length nodes / 6
+  pub lines : n + length outputs / 2 + linesNeeded (treesIn nodes outputs) ≤ 65535
+  pub room : fileLength (sharesCount (treesIn nodes outputs)) ≤ length area
+
+-- numbers that are small enough to be added
+pub record Few (x : Counts) : Type 0 where
+  pub gates-few : x .gates ≤ 16384
+  pub own-few : x .own ≤ 16384
+  pub lines-few : x .lines ≤ 16384
+
+-- node i is small enough for exact counts
+pub record Countable (nodes : List ℕ) (i : ℕ) : Type 0 where
+  pub valid : Valid nodes i
+  pub small : size (treeIn nodes i) ≤ 16384
+
+-- so is the node of each output, and there are at most 64 outputs
+pub record AllCountable (nodes outputs : List ℕ) : Type 0 where
+  pub each : (k : ℕ) → k < length outputs / 2 → Countable nodes (outputAt outputs k)
+  pub outputs-most : length outputs / 2 ≤ 64
+
+-- a tree's gates and lines, as they are counted
+pub record Counted (e : Expr) (r : Counts) : Type 0 where
+  pub gates-are : r .gates ≡ gatesShown (gateCount e)
+  pub own-are : r .own ≡ ownCount e
+  pub lines-are : r .lines ≡ most e
+
+-- the gates and work lines of a circuit, as they are counted: at most 64 times 32,767 gates, so that no sum is too large
+pub record Needed (es : List Expr) (r : Needs) : Type 0 where
+  pub gates-are : r .gates ≡ gatesShown (sharesCount es)
+  pub lines-are : r .lines ≡ linesNeeded es

@@ -1,0 +1,36 @@
+// The shares of the outputs, in their order: each output's gates, and their undoing.
+use crate::builder::Progress;
+use crate::builder::build;
+use crate::reverser::append_reversed;
+use program::reader::output_at;
+ghost use Rattle.construct.specs.Construction.{share, circuit};
+ghost use Rattle.construct.specs.Writing.{treeIn, treesIn, Stored, ShareRoom, Writable};
+
+// Writes the share of node i with this target; the number of gates then. The lines that it took
+// are free again, so that the next share starts with the same p.free.
+fn write_share(nodes: &[u8], i: usize, target: u16, p: Progress, area: &mut [u8]) -> usize
+    requires { ⌜ ShareRoom (now nodes) i target p (now area) ⌝ }
+    ensures { λ r. ⌜ Stored (share (treeIn (now (nodes .entry)) i) target (p .free)) (p .gates) r (now (area .entry)) (now (area .exit)) ⌝ }
+{
+    let from = p.gates;
+    let q = build(nodes, i, target, p, area);
+    let to = q.gates;
+    append_reversed(area, from, to, to, target)
+}
+
+// Writes the shares of all outputs over so many inputs, from the first gate on; the number of gates.
+pub fn write_shares(nodes: &[u8], outputs: &[u8], inputs: usize, area: &mut [u8]) -> usize
+    requires { ⌜ Writable (now nodes) (now outputs) inputs (now area) ⌝ }
+    ensures { λ r. ⌜ Stored (circuit inputs (treesIn (now (nodes .entry)) (now (outputs .entry)))) 0 r (now (area .entry)) (now (area .exit)) ⌝ }
+{
+    let free = (inputs + outputs.len() / 2) as u16;
+    let mut gates = 0;
+    let mut k = 0;
+    while k < outputs.len() / 2 {
+        let target = (inputs + k) as u16;
+        let p = Progress { gates, free };
+        gates = write_share(nodes, output_at(outputs, k), target, p, area);
+        k += 1;
+    }
+    gates
+}

@@ -1,0 +1,92 @@
+-- The worked case: its table is in order, and its circuit takes six work lines and thirteen gates. Assumes nothing.
+use Prim.Native.Nat.{ℕ, _<_}
+use native.Mathlib.Omega.{arith}
+use mathlib.Core.Path.{_≡_, refl, ap}
+use mathlib.Core.Bool.{true}
+use mathlib.Core.List.{List, [], _∷_}
+use lib.ListN.{length}
+use Rattle.wire.specs.Checks.{allBelow, lowestFrom}
+use Rattle.wire.specs.Lists.{tabulateFrom}
+use Rattle.wire.proofs.CheckLaws.{all-below}
+use Rattle.wire.proofs.ListLaws.{tabulate-length, tabulate-at}
+use Rattle.circuit.specs.Format.{Small}
+use Rattle.program.specs.declared.node.Node.the-variants.{Zero}
+use Rattle.program.specs.Exprs.{Expr, INPUT, AND, size}
+use Rattle.program.specs.Nodes.{nodeAt, nodesIn, nodeFits, operandsFit}
+use Rattle.program.specs.Trees.{trees, treesFrom, treeOf, TableOk}
+use Rattle.program.proofs.NodeLaws.{node-ok}
+use Rattle.construct.specs.declared.counter.Needs.{Needs}
+use Rattle.construct.specs.Construction.{held, most, linesNeeded}
+use Rattle.construct.specs.Counting.{gateCount, ownCount, shareCount, sharesCount, gatesShown}
+use Rattle.construct.specs.Writing.{treeIn, treesIn, Valid, AllCountable, Needed, Writable}
+
+-- INPUT 0, INPUT 1, AND 0 1, INPUT 2, AND 2 3, INPUT 3, AND 4 5
+abbrev pub nodes : List ℕ
+nodes =
+    2 ∷ 0 ∷ 0 ∷ 0 ∷ 0 ∷ 0 ∷ 2 ∷ 0 ∷ 1 ∷ 0 ∷ 0 ∷ 0 ∷ 5 ∷ 0 ∷ 0 ∷ 0 ∷ 1 ∷ 0 ∷ 2 ∷ 0 ∷ 2 ∷ 0 ∷ 0 ∷ 0
+    ∷ 5 ∷ 0 ∷ 2 ∷ 0 ∷ 3 ∷ 0 ∷ 2 ∷ 0 ∷ 3 ∷ 0 ∷ 0 ∷ 0 ∷ 5 ∷ 0 ∷ 4 ∷ 0 ∷ 5 ∷ 0 ∷ []
+
+-- the output is node 6
+abbrev pub outputs : List ℕ
+outputs = 6 ∷ 0 ∷ []
+
+abbrev four : Expr
+four = AND (AND (AND (INPUT 0) (INPUT 1)) (INPUT 2)) (INPUT 3)
+
+case-tree : treeIn nodes 6 ≡ four
+unfolding treeIn trees treesFrom treeOf nodeAt tabulateFrom
+case-tree = refl
+
+case-trees : treesIn nodes outputs ≡ four ∷ []
+unfolding treesIn tabulateFrom
+case-trees = ap (λ (e : Expr). e ∷ []) case-tree
+
+in-order : allBelow (nodeFits 4 nodes) 7 ≡ true
+unfolding nodeFits operandsFit lowestFrom
+in-order = refl
+
+ordered : TableOk 4 (nodesIn nodes)
+ordered i h =
+    let l : i < 7 = rw (tabulate-length (nodeAt nodes) 7) at h in
+    rw (tabulate-at (nodeAt nodes) 7 i Zero l) (node-ok 4 nodes i (all-below (nodeFits 4 nodes) 7 in-order i l))
+
+case-lines : linesNeeded (treesIn nodes outputs) ≡ 6
+unfolding linesNeeded most held
+case-lines = ap linesNeeded case-trees
+
+case-gates : sharesCount (treesIn nodes outputs) ≡ 13
+unfolding sharesCount shareCount gateCount ownCount
+case-gates = ap sharesCount case-trees
+
+valid : Valid nodes 6
+valid = record { inputs = 4; ordered = ordered; inside = omega arith }
+
+-- it can be counted
+pub case-countable : AllCountable nodes outputs
+unfolding size
+case-countable =
+    record {
+      each = λ k h. let z : k ≡ 0 = omega arith in rw z (record { valid = valid; small = omega (arith, ap size case-tree) });
+      outputs-most = omega arith;
+    }
+
+-- its head's numbers fit their fields
+pub case-small : {r : Needs} → Needed (treesIn nodes outputs) r → Small (record { inputs = 4; outputs = 1; work = r .lines; gates = r .gates })
+unfolding gatesShown
+case-small n =
+    record {
+      inputs-small = omega arith;
+      outputs-small = omega arith;
+      work-small = omega (arith, n .lines-are, case-lines);
+      gates-small = omega (arith, n .gates-are, case-gates);
+    }
+
+-- and an area of 132 bytes has room for it
+pub case-writable : (area : List ℕ) → length area ≡ 132 → Writable nodes outputs 4 area
+case-writable area e =
+    record {
+      ordered = ordered;
+      named = λ k h. let z : k ≡ 0 = omega arith in rw z (omega arith);
+      lines = omega (arith, case-lines);
+      room = omega (arith, case-gates, e);
+    }

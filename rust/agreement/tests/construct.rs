@@ -1,0 +1,500 @@
+//! The construction: the model's circuits as files that the archive reads and runs, held to what
+//! the archive's evaluation answers.
+
+use agreement::lent::lent;
+use agreement::program::{self, and, input, not, xor, Node, Program, ONE, ZERO};
+use agreement::random::Random;
+use agreement::{hex, shaped, shaped_circuit};
+use model::circuit::{self, Circuit, Gate};
+use model::construct;
+
+/// The limits of 01.
+const MOST_GATES: usize = 8_000;
+const MOST_WORK_LINES: usize = 1_024;
+const LARGEST_SIZE: usize = 16_384;
+
+/// The circuit file of the case [`four`], as the proved code wrote it.
+const WORKED_CASE: &str = concat!(env!("CARGO_MANIFEST_DIR"), "/../../crates/worked_case/stdout");
+
+fn read(program: &Program) -> model::program::Program {
+    model::program::read(&program.bytes()).expect("a program that was drawn is in order")
+}
+
+/// The lines after the archive has run a circuit file on them.
+fn run(file: &[u8], start: &[u8]) -> Vec<u8> {
+    let (outcome, after) = lent(start, |lines| oracle::run_forwards(file, lines));
+    assert_eq!(outcome, Ok(()), "run on {start:?} {}", hex(file));
+    after
+}
+
+/// The outputs' values as the archive answers them.
+fn evaluated(file: &[u8], node_count: usize, inputs: &[u8], outputs: usize) -> Vec<u8> {
+    let mut values = vec![0; node_count];
+    (0..outputs as u64)
+        .map(|k| oracle::evaluate(file, &mut values, inputs, k))
+        .map(|value| u8::from(value.expect("a program that was drawn has values")))
+        .collect()
+}
+
+/// AND of the three-input case's AND with a fourth input.
+fn four() -> Program {
+    let nodes = [input(0), input(1), and(0, 1), input(2), and(2, 3), input(3), and(4, 5)];
+    Program::new(4, &nodes, &[6])
+}
+
+/// What the random cases met.
+#[derive(Debug, Default)]
+struct Seen {
+    programs: u64,
+    shares: u64,
+    runs_from_zero: u64,
+    other_runs: u64,
+    /// How many values were 0, how many 1.
+    values: [u64; 2],
+    most_gates: usize,
+    most_work_lines: usize,
+    largest_size: usize,
+    deepest: usize,
+    /// Programs with a size above the number of nodes, so that one is built more than once.
+    with_shared_nodes: u64,
+    with_64_inputs_and_64_outputs: u64,
+}
+
+impl Seen {
+    fn count(&mut self, program: &model::program::Program, circuit: &Circuit) {
+        let sizes = construct::sizes(&program.nodes);
+        let largest = program.outputs.iter().map(|i| sizes[*i]).max().unwrap_or(0);
+        self.programs += 1;
+        self.shares += program.outputs.len() as u64;
+        self.most_gates = self.most_gates.max(circuit.gates.len());
+        self.most_work_lines = self.most_work_lines.max(circuit.work);
+        self.largest_size = self.largest_size.max(largest);
+        let depths = depths(&program.nodes);
+        let deepest = program.outputs.iter().map(|i| depths[*i]).max().unwrap_or(0);
+        self.deepest = self.deepest.max(deepest);
+        self.with_shared_nodes += u64::from(largest > program.nodes.len());
+        let wide = (program.inputs, program.outputs.len()) == (64, 64);
+        self.with_64_inputs_and_64_outputs += u64::from(wide);
+    }
+
+    /// Prints the run, and fails unless it met enough of everything.
+    fn finish(&self, name: &str, at_least: u64) {
+        println!("{name}: {} programs, {} shares", self.programs, self.shares);
+        println!(
+            "{name}: {} programs with shared nodes, {} with 64 inputs and 64 outputs",
+            self.with_shared_nodes, self.with_64_inputs_and_64_outputs
+        );
+        println!(
+            "{name}: at most {} gates, {} work lines, size {}, depth {}",
+            self.most_gates, self.most_work_lines, self.largest_size, self.deepest
+        );
+        assert!(self.programs >= at_least, "too few programs");
+        assert!(self.with_shared_nodes >= at_least / 10, "too few shared nodes");
+        assert!(self.with_64_inputs_and_64_outputs >= at_least / 100, "too few wide programs");
+        assert!(self.most_gates > 7_000, "no circuit with many gates");
+        assert!(self.most_work_lines > 1_000, "no circuit with many work lines");
+        assert!(self.largest_size > 5_000, "no large node");
+        assert!(self.deepest > 3_000, "no deep node");
+    }
+}
+
+/// For each node, the nodes on its longest way down to a leaf.
+fn depths(nodes: &[model::program::Node]) -> Vec<usize> {
+    use model::program::Node::{And, Input, Not, One, Xor, Zero};
+
+    let mut depths: Vec<usize> = Vec::new();
+    for node in nodes {
+        depths.push(match *node {
+            Zero | One | Input(_) => 1,
+            Not(a) => 1 + depths[a],
+            Xor(a, b) | And(a, b) => 1 + depths[a].max(depths[b]),
+        });
+    }
+    depths
+}
+
+/// A random program whose circuit a file can hold.
+fn drawn(random: &mut Random) -> Program {
+    let program = match random.below(8) {
+        0 => chain(random),
+        1 => doubled(random),
+        2 => wide(random),
+        _ => program::valid(random),
+    };
+    fitted(random, program)
+}
+
+/// Each node takes the one before and a leaf: as deep as there are nodes.
+fn chain(random: &mut Random) -> Program {
+    let inputs = random.within(1..=64);
+    let mut nodes: Vec<Node> = (0..inputs).map(|j| input(j as u16)).collect();
+    nodes.extend([ZERO, ONE]);
+    let leaves = nodes.len();
+    let length = random.pick(&[10, 100, 1_000, 4_000]);
+    let and_once_in = random.pick(&[1, 2, 10, 5_000]);
+    for _ in 0..length {
+        let before = nodes.len() as u16 - 1;
+        let leaf = random.below(leaves) as u16;
+        let (a, b) = random.pick(&[(before, leaf), (leaf, before)]);
+        nodes.push(if random.once_in(and_once_in) {
+            and(a, b)
+        } else {
+            random.pick(&[not(before), xor(a, b), xor(a, b)])
+        });
+    }
+    let last = nodes.len() as u16 - 1;
+    let outputs = [last, last / 2, random.within(0..=usize::from(last)) as u16];
+    Program::new(inputs as u16, &nodes, &outputs[..random.within(1..=3)])
+}
+
+/// Each node uses the one before twice, so that its tree is built twice as often.
+fn doubled(random: &mut Random) -> Program {
+    let mut nodes = vec![random.pick(&[input(0), input(1), ONE, ZERO])];
+    for before in 0..random.within(1..=13) as u16 {
+        nodes.push(random.pick(&[and(before, before), and(before, before), xor(before, before)]));
+        if random.once_in(4) {
+            let last = nodes.len() as u16 - 1;
+            nodes[usize::from(last)] = xor(before, random.within(0..=usize::from(before)) as u16);
+        }
+    }
+    let last = nodes.len() as u16 - 1;
+    Program::new(2, &nodes, &[last, last / 2])
+}
+
+/// 64 inputs and 64 outputs, with operands from anywhere.
+fn wide(random: &mut Random) -> Program {
+    let mut nodes: Vec<Node> = (0..64).map(input).collect();
+    for index in 64..random.within(80..=250) {
+        let (a, b) = (random.below(index) as u16, random.below(index) as u16);
+        nodes.push(random.pick(&[not(a), xor(a, b), and(a, b), and(a, b)]));
+    }
+    let outputs: Vec<u16> = (0..64).map(|_| random.below(nodes.len()) as u16).collect();
+    Program::new(64, &nodes, &outputs)
+}
+
+/// The program with lower nodes for the outputs that are too large, and without the last outputs
+/// if there are too many gates in all.
+fn fitted(random: &mut Random, mut program: Program) -> Program {
+    let nodes = read(&program).nodes;
+    let sizes = construct::sizes(&nodes);
+    let fits = |i: usize| {
+        sizes[i] <= LARGEST_SIZE
+            && construct::work_lines(&nodes, i) <= MOST_WORK_LINES
+            && construct::share_gate_count(&nodes, i) <= MOST_GATES
+    };
+    let mut gates_left = MOST_GATES;
+    let mut outputs = Vec::new();
+    for output in &program.outputs {
+        let mut i = usize::from(*output);
+        // Node 0 is a leaf, and fits.
+        while !fits(i) {
+            i = random.within(i / 2..=i - 1);
+        }
+        let gates = construct::share_gate_count(&nodes, i);
+        if gates > gates_left {
+            break;
+        }
+        gates_left -= gates;
+        outputs.push(i as u16);
+    }
+    program.output_count = outputs.len() as u16;
+    program.outputs = outputs;
+    program
+}
+
+/// Lines to start from: every one of them where they are few, otherwise some with the work lines
+/// zero and some not.
+fn starts(random: &mut Random, circuit: &Circuit) -> Vec<Vec<u8>> {
+    let lines = circuit.lines();
+    if lines <= 7 {
+        let start = |state: usize| (0..lines).map(|line| (state >> line & 1) as u8).collect();
+        return (0..1 << lines).map(start).collect();
+    }
+    // Mostly ones, so that not every AND is 0.
+    let mostly_ones = (0..lines).map(|_| u8::from(!random.once_in(8))).collect();
+    let mut starts = vec![random.bits(lines), mostly_ones, vec![1; lines]];
+    for start in &mut starts {
+        start[circuit.inputs + circuit.outputs..].fill(0);
+    }
+    starts.extend([random.bits(lines), vec![1; lines]]);
+    starts
+}
+
+/// Holds the lines after the shares of the first j outputs, for every j, to what 01 says of them.
+fn holds(random: &mut Random, seen: &mut Seen, program: &Program) {
+    let file = program.bytes();
+    let program = read(program);
+    let whole = construct::circuit(&program);
+    let (inputs, outputs) = (whole.inputs, whole.outputs);
+    let first_work_line = inputs + outputs;
+    seen.count(&program, &whole);
+
+    let starts = starts(random, &whole);
+    let values: Vec<Vec<u8>> = starts
+        .iter()
+        .map(|start| evaluated(&file, program.nodes.len(), &start[..inputs], outputs))
+        .collect();
+    for j in 0..=outputs {
+        let first = Circuit { gates: construct::shares(&program, j), ..whole };
+        assert!(whole.gates.starts_with(&first.gates), "{j} shares of {}", hex(&file));
+        assert!(j < outputs || first == whole, "all shares of {}", hex(&file));
+        let circuit_file = circuit::write(&first);
+        let gate_count = first.gates.len() as u64;
+        assert_eq!(oracle::read_circuit(&circuit_file), Ok(gate_count), "{}", hex(&circuit_file));
+        for (start, values) in starts.iter().zip(&values) {
+            let after = run(&circuit_file, start);
+            let describe = || format!("{j} shares from {start:?}, program of {}", hex(&file));
+            assert_eq!(after[..inputs], start[..inputs], "the inputs, {}", describe());
+            assert_eq!(
+                after[first_work_line..],
+                start[first_work_line..],
+                "the work lines, {}",
+                describe()
+            );
+            assert_eq!(
+                after[inputs + j..first_work_line],
+                start[inputs + j..first_work_line],
+                "the targets of later outputs, {}",
+                describe()
+            );
+            if start[first_work_line..].contains(&1) {
+                seen.other_runs += 1;
+                continue;
+            }
+            seen.runs_from_zero += 1;
+            for (k, value) in values[..j].iter().enumerate() {
+                let target = inputs + k;
+                assert_eq!(after[target], start[target] ^ value, "target {k}, {}", describe());
+                seen.values[usize::from(*value)] += 1;
+            }
+        }
+    }
+}
+
+/// Circuits as large as a file holds them, and the largest node.
+#[test]
+fn at_the_limits() {
+    let mut random = Random::new(0x6c69_6d69);
+    let mut seen = Seen::default();
+    let mut check = |name: &str, program: Program, gates: usize, work: usize, size: usize| {
+        let circuit = construct::circuit(&read(&program));
+        let node = usize::from(program.outputs[0]);
+        assert_eq!((circuit.gates.len(), circuit.work), (gates, work), "{name}");
+        assert_eq!(construct::size(&read(&program).nodes, node), size, "{name}");
+        holds(&mut random, &mut seen, &program);
+    };
+
+    // Node i has 2^i gates up to node 12, and then there are 8,000 of them.
+    let mut nodes = vec![input(0)];
+    nodes.extend((0..12).map(|before| xor(before, before)));
+    nodes.extend([xor(12, 11), xor(13, 10), xor(14, 9), xor(15, 8), xor(16, 6)]);
+    check("8,000 gates", Program::new(1, &nodes, &[17]), 8_000, 0, 15_999);
+
+    // Two ANDs of 32 inputs each, in turn: 125 gates an output.
+    let mut nodes: Vec<Node> = (0..64).map(input).collect();
+    for half in [0, 32] {
+        nodes.push(and(half, half + 1));
+        for j in half + 2..half + 32 {
+            let before = nodes.len() as u16 - 1;
+            nodes.push(and(before, j));
+        }
+    }
+    let outputs = [94, 125].repeat(32);
+    check("64 outputs", Program::new(64, &nodes, &outputs), 8_000, 62, 63);
+
+    // 512 ANDs, each of the one before and an input.
+    for input_first in [false, true] {
+        let mut nodes: Vec<Node> = (0..64).map(input).collect();
+        for before in 63..575 {
+            let j = before % 64;
+            nodes.push(if input_first { and(j, before) } else { and(before, j) });
+        }
+        check("1,024 work lines", Program::new(64, &nodes, &[575]), 2_049, 1_024, 1_025);
+    }
+
+    // As deep as a program can be.
+    let mut nodes = vec![input(0)];
+    nodes.extend((0..4_095).map(not));
+    check("4,095 NOTs", Program::new(1, &nodes, &[4_095]), 4_096, 0, 4_096);
+
+    let mut chain = shaped::xor_chain();
+    chain.outputs = vec![14];
+    chain.output_count = 1;
+    check("the largest size", chain, 1, 0, 16_384);
+
+    assert!(seen.values.iter().all(|count| *count > 0), "values of one kind only");
+}
+
+#[test]
+fn random_programs_run() {
+    let mut random = Random::new(0x6275_696c);
+    let mut seen = Seen::default();
+    for _ in 0..4_000 {
+        let program = drawn(&mut random);
+        holds(&mut random, &mut seen, &program);
+    }
+    seen.finish("construct, run", 4_000);
+    println!(
+        "construct, run: {} runs with the work lines zero, {} others; {} values 0, {} values 1",
+        seen.runs_from_zero, seen.other_runs, seen.values[0], seen.values[1]
+    );
+    assert!(seen.runs_from_zero > 20_000 && seen.other_runs > 20_000, "too few runs");
+    assert!(seen.values.iter().all(|count| *count > 20_000), "too few values of one kind");
+}
+
+/// The lines that a gate reads.
+fn controls(gate: &Gate) -> Vec<usize> {
+    match *gate {
+        Gate::Not(_) => vec![],
+        Gate::Cnot(control, _) => vec![control],
+        Gate::Toffoli(control, second, _) => vec![control, second],
+    }
+}
+
+/// One step of the construction: the gates of a node from those of its operands, the second built
+/// on the lines that the first has left free.
+fn from_operands(nodes: &[model::program::Node], i: usize, t: usize, f: usize) -> Vec<Gate> {
+    use model::program::Node::{And, Input, Not, One, Xor, Zero};
+
+    let build = |i, t, f| construct::build(nodes, i, t, f);
+    let lines = |i| construct::work_lines(nodes, i);
+    match nodes[i] {
+        Zero => vec![],
+        One => vec![Gate::Not(t)],
+        Input(j) => vec![Gate::Cnot(j, t)],
+        Not(a) => [vec![Gate::Not(t)], build(a, t, f)].concat(),
+        Xor(a, b) => [build(a, t, f), build(b, t, f + lines(a))].concat(),
+        And(a, b) => {
+            let second = f + 1 + lines(a);
+            let toffoli = vec![Gate::Toffoli(f, second, t)];
+            [build(a, f, f + 1), build(b, second, second + 1), toffoli].concat()
+        }
+    }
+}
+
+/// The file that the archive's undoing writes of these gates with the target chosen.
+fn undone(circuit: &Circuit, gates: &[Gate], target: usize) -> Vec<u8> {
+    let file = circuit::write(&Circuit { gates: gates.to_vec(), ..*circuit });
+    let mut choices = vec![0; circuit.lines()];
+    choices[target] = 1;
+    let (length, mut area) = lent(&vec![0; file.len()], |area| oracle::undo(&file, &choices, area));
+    area.truncate(length.expect("there is room for every gate"));
+    area
+}
+
+/// The gates of each output, the numbers that are told of them, and the bounds by the size.
+#[test]
+fn gates_of_random_programs() {
+    let mut random = Random::new(0x6e75_6d62);
+    let mut seen = Seen::default();
+    let (mut lines_reached, mut gates_reached) = (0, 0);
+    for _ in 0..4_000 {
+        let drawn = drawn(&mut random);
+        let describe = || format!("program of {}", hex(&drawn.bytes()));
+        let program = read(&drawn);
+        let nodes = &program.nodes;
+        let circuit = construct::circuit(&program);
+        seen.count(&program, &circuit);
+
+        let sizes = construct::sizes(nodes);
+        let first_work_line = program.inputs + program.outputs.len();
+        let mut gates = Vec::new();
+        let mut most = 0;
+        for (k, &i) in program.outputs.iter().enumerate() {
+            let target = program.inputs + k;
+            let build = construct::build(nodes, i, target, first_work_line);
+            let share = construct::share(&program, k);
+            let own = build.iter().filter(|gate| gate.target() == target).count();
+            assert_eq!(build.len(), construct::gate_count(nodes, i), "{}", describe());
+            assert_eq!(own, construct::own_gate_count(nodes, i), "{}", describe());
+            assert_eq!(share.len(), construct::share_gate_count(nodes, i), "{}", describe());
+            assert_eq!(share[..build.len()], build, "{}", describe());
+            let expected = from_operands(nodes, i, target, first_work_line);
+            assert_eq!(build, expected, "output {k} and its operands, {}", describe());
+            let rest = Circuit { gates: share[build.len()..].to_vec(), ..circuit };
+            let expected = undone(&circuit, &build, target);
+            assert_eq!(circuit::write(&rest), expected, "output {k} undone, {}", describe());
+
+            // The lines taken are the lowest ones, each the control of one gate, and no other line
+            // but an input is a control.
+            let mut taken: Vec<usize> =
+                build.iter().flat_map(controls).filter(|line| *line >= program.inputs).collect();
+            taken.sort_unstable();
+            let work = construct::work_lines(nodes, i);
+            let lowest = first_work_line..first_work_line + work;
+            assert!(taken.into_iter().eq(lowest.clone()), "the lines taken, {}", describe());
+            for gate in &share {
+                let written = gate.target();
+                assert!(written == target || lowest.contains(&written), "{gate:?}, {}", describe());
+            }
+
+            let size = construct::size(nodes, i);
+            assert_eq!(size, sizes[i], "{}", describe());
+            assert!(work < size, "{work} work lines, size {size}, {}", describe());
+            assert!(share.len() < 2 * size, "{} gates, size {size}, {}", share.len(), describe());
+            lines_reached += u64::from(size > 1 && work == size - 1);
+            gates_reached += u64::from(size > 1 && share.len() == 2 * size - 1);
+
+            gates.extend(share);
+            most = most.max(work);
+        }
+        assert_eq!(circuit.gates, gates, "{}", describe());
+        assert_eq!(circuit.work, most, "{}", describe());
+    }
+    seen.finish("construct, gates", 4_000);
+    println!(
+        "construct, gates: size - 1 work lines in {lines_reached} shares, \
+         2 size - 1 gates in {gates_reached}"
+    );
+    assert!(lines_reached > 100 && gates_reached > 100, "the bounds were hardly reached");
+}
+
+/// The examples of 01, gate by gate as they are written out beside the circuit files.
+#[test]
+fn the_examples() {
+    let check = |name: &str, program: Program, expected: Vec<u8>| {
+        let written = circuit::write(&construct::circuit(&read(&program)));
+        assert_eq!(written, expected, "{name}");
+    };
+    check("the whole case", shaped::whole_case(), shaped_circuit::WHOLE_CASE.to_vec());
+    let nor = Program::new(2, &[input(0), input(1), not(0), not(1), and(2, 3)], &[4]);
+    check("NOR", nor, shaped_circuit::nor().bytes());
+    let three = Program::new(3, &[input(0), input(1), input(2), and(0, 1), and(3, 2)], &[4]);
+    check("AND of three inputs", three, shaped_circuit::and_of_three().bytes());
+
+    let four = read(&four());
+    let built =
+        Circuit { gates: construct::build(&four.nodes, 6, 4, 5), ..construct::circuit(&four) };
+    assert_eq!(circuit::write(&built), shaped_circuit::and_of_four_built().bytes());
+}
+
+/// The bytes that the proved code wrote are those of the model, and run as 01 says from every start.
+#[test]
+fn the_worked_case() {
+    let file = std::fs::read(WORKED_CASE).expect(WORKED_CASE);
+    let written = circuit::write(&construct::circuit(&read(&four())));
+    for (at, (byte, expected)) in file.iter().zip(&written).enumerate() {
+        assert_eq!(byte, expected, "byte {at}, the proved code, then the model");
+    }
+    assert_eq!(file.len(), written.len(), "the proved code, then the model");
+
+    assert_eq!(oracle::read_circuit(&file), Ok(13));
+    let mut from_zero = 0;
+    for state in 0..1 << 11 {
+        let start: Vec<u8> = (0..11).map(|line| (state >> line & 1) as u8).collect();
+        let after = run(&file, &start);
+        let mut expected = start.clone();
+        assert_eq!(model::run::forwards(&file, &mut expected), Ok(()));
+        assert_eq!(after, expected, "the archive, then the model, from {start:?}");
+
+        assert_eq!(after[..4], start[..4], "the inputs, from {start:?}");
+        assert_eq!(after[5..], start[5..], "the work lines, from {start:?}");
+        if start[5..] == [0; 6] {
+            let and = start[0] & start[1] & start[2] & start[3];
+            assert_eq!(after[4], start[4] ^ and, "the target, from {start:?}");
+            from_zero += 1;
+        }
+    }
+    println!("construct: the worked case from 2048 starts, {from_zero} with the work lines zero");
+    assert_eq!(from_zero, 32);
+}

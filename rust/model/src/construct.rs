@@ -1,0 +1,315 @@
+//! The construction, from 01 and section 4.1 of 001: the gates of each output's share, and their
+//! numbers.
+//!
+//! A node is unfolded at each use, so the time that all but [`sizes`] take grows with the unfolded
+//! size.
+
+use crate::circuit::{Circuit, Gate};
+use crate::program::{Node, Program};
+
+/// The gates that XOR node i into line t, with f the lowest free line: C.
+pub fn build(nodes: &[Node], i: usize, t: usize, f: usize) -> Vec<Gate> {
+    let mut building = Building { nodes, free: f, gates: Vec::new() };
+    building.xor_into(i, t);
+    building.gates
+}
+
+/// The gates of output k: C, then C reversed without the gates whose target is the output's.
+pub fn share(program: &Program, k: usize) -> Vec<Gate> {
+    let target = program.inputs + k;
+    let first_work_line = program.inputs + program.outputs.len();
+    let mut gates = build(&program.nodes, program.outputs[k], target, first_work_line);
+    let undone: Vec<Gate> =
+        gates.iter().rev().filter(|gate| gate.target() != target).copied().collect();
+    gates.extend(undone);
+    gates
+}
+
+/// The gates of the first j outputs, one share after the other.
+pub fn shares(program: &Program, j: usize) -> Vec<Gate> {
+    (0..j).flat_map(|k| share(program, k)).collect()
+}
+
+/// The circuit of a program, whether a file can hold it or not.
+pub fn circuit(program: &Program) -> Circuit {
+    Circuit {
+        inputs: program.inputs,
+        outputs: program.outputs.len(),
+        work: most_work_lines(program),
+        gates: shares(program, program.outputs.len()),
+    }
+}
+
+/// The gates so far. No line is given back before the share is over, so the free lines are all
+/// those from the lowest on.
+struct Building<'a> {
+    nodes: &'a [Node],
+    free: usize,
+    gates: Vec<Gate>,
+}
+
+impl Building<'_> {
+    fn xor_into(&mut self, i: usize, t: usize) {
+        match self.nodes[i] {
+            Node::Zero => {}
+            Node::One => self.gates.push(Gate::Not(t)),
+            Node::Input(j) => self.gates.push(Gate::Cnot(j, t)),
+            Node::Not(a) => {
+                self.gates.push(Gate::Not(t));
+                self.xor_into(a, t);
+            }
+            Node::Xor(a, b) => {
+                self.xor_into(a, t);
+                self.xor_into(b, t);
+            }
+            Node::And(a, b) => {
+                let first = self.take();
+                self.xor_into(a, first);
+                let second = self.take();
+                self.xor_into(b, second);
+                self.gates.push(Gate::Toffoli(first, second, t));
+            }
+        }
+    }
+
+    fn take(&mut self) -> usize {
+        let line = self.free;
+        self.free += 1;
+        line
+    }
+}
+
+/// The unfolded size of node i.
+pub fn size(nodes: &[Node], i: usize) -> usize {
+    match nodes[i] {
+        Node::Zero | Node::One | Node::Input(_) => 1,
+        Node::Not(a) => 1 + size(nodes, a),
+        Node::Xor(a, b) | Node::And(a, b) => 1 + size(nodes, a) + size(nodes, b),
+    }
+}
+
+/// Each node's unfolded size, or 16,385 if that is less.
+pub fn sizes(nodes: &[Node]) -> Vec<usize> {
+    let mut sizes: Vec<usize> = Vec::new();
+    for node in nodes {
+        let size = match *node {
+            Node::Zero | Node::One | Node::Input(_) => 1,
+            Node::Not(a) => 1 + sizes[a],
+            Node::Xor(a, b) | Node::And(a, b) => 1 + sizes[a] + sizes[b],
+        };
+        sizes.push(size.min(16_385));
+    }
+    sizes
+}
+
+/// How many gates build node i.
+pub fn gate_count(nodes: &[Node], i: usize) -> usize {
+    match nodes[i] {
+        Node::Zero => 0,
+        Node::One | Node::Input(_) => 1,
+        Node::Not(a) => 1 + gate_count(nodes, a),
+        Node::Xor(a, b) => gate_count(nodes, a) + gate_count(nodes, b),
+        Node::And(a, b) => gate_count(nodes, a) + gate_count(nodes, b) + 1,
+    }
+}
+
+/// How many of them have the line that node i is built into as their target.
+pub fn own_gate_count(nodes: &[Node], i: usize) -> usize {
+    match nodes[i] {
+        Node::Zero => 0,
+        Node::One | Node::Input(_) => 1,
+        Node::Not(a) => 1 + own_gate_count(nodes, a),
+        Node::Xor(a, b) => own_gate_count(nodes, a) + own_gate_count(nodes, b),
+        Node::And(_, _) => 1,
+    }
+}
+
+/// How many work lines building node i takes.
+pub fn work_lines(nodes: &[Node], i: usize) -> usize {
+    match nodes[i] {
+        Node::Zero | Node::One | Node::Input(_) => 0,
+        Node::Not(a) => work_lines(nodes, a),
+        Node::Xor(a, b) => work_lines(nodes, a) + work_lines(nodes, b),
+        Node::And(a, b) => 2 + work_lines(nodes, a) + work_lines(nodes, b),
+    }
+}
+
+/// How many gates the share of an output has whose node is i: those that build it, and all but its
+/// own again.
+pub fn share_gate_count(nodes: &[Node], i: usize) -> usize {
+    2 * gate_count(nodes, i) - own_gate_count(nodes, i)
+}
+
+/// The circuit's w: the most work lines that any output takes.
+pub fn most_work_lines(program: &Program) -> usize {
+    program.outputs.iter().map(|i| work_lines(&program.nodes, *i)).max().unwrap_or(0)
+}
+
+#[cfg(test)]
+mod tests {
+    use super::*;
+    use crate::{circuit, run};
+
+    use Gate::{Cnot, Not, Toffoli};
+
+    fn program(inputs: usize, nodes: &[Node], outputs: &[usize]) -> Program {
+        Program { inputs, nodes: nodes.to_vec(), outputs: outputs.to_vec() }
+    }
+
+    /// AND of the three-input case's AND with a fourth input.
+    fn four() -> Program {
+        let nodes = [
+            Node::Input(0),
+            Node::Input(1),
+            Node::And(0, 1),
+            Node::Input(2),
+            Node::And(2, 3),
+            Node::Input(3),
+            Node::And(4, 5),
+        ];
+        program(4, &nodes, &[6])
+    }
+
+    /// The circuit has this w and these gates, and the numbers say so.
+    fn gives(program: &Program, work: usize, gates: &[Gate]) {
+        let circuit = circuit(program);
+        assert_eq!((circuit.inputs, circuit.outputs), (program.inputs, program.outputs.len()));
+        assert_eq!((circuit.work, &circuit.gates[..]), (work, gates));
+        let counts = program.outputs.iter().map(|i| share_gate_count(&program.nodes, *i));
+        assert_eq!(counts.sum::<usize>(), gates.len());
+    }
+
+    /// The lines after the circuit's file has run forwards.
+    fn ran(circuit: &Circuit, start: &[u8]) -> Vec<u8> {
+        let mut lines = start.to_vec();
+        assert_eq!(run::forwards(&circuit::write(circuit), &mut lines), Ok(()));
+        lines
+    }
+
+    #[test]
+    fn the_whole_case() {
+        let and = program(2, &[Node::Input(0), Node::Input(1), Node::And(0, 1)], &[2]);
+        let gates = [Cnot(0, 3), Cnot(1, 4), Toffoli(3, 4, 2), Cnot(1, 4), Cnot(0, 3)];
+        gives(&and, 2, &gates);
+        assert_eq!(circuit::write(&circuit(&and)).len(), 68);
+        assert_eq!(build(&and.nodes, 2, 2, 3), gates[..3]);
+        assert_eq!(build(&and.nodes, 2, 7, 20), [Cnot(0, 20), Cnot(1, 21), Toffoli(20, 21, 7)]);
+    }
+
+    #[test]
+    fn nor_as_and_of_two_nots() {
+        let nodes = [Node::Input(0), Node::Input(1), Node::Not(0), Node::Not(1), Node::And(2, 3)];
+        let build = [Not(3), Cnot(0, 3), Not(4), Cnot(1, 4), Toffoli(3, 4, 2)];
+        let clean = [Cnot(1, 4), Not(4), Cnot(0, 3), Not(3)];
+        gives(&program(2, &nodes, &[4]), 2, &[&build[..], &clean].concat());
+    }
+
+    #[test]
+    fn and_of_three_inputs() {
+        let nodes =
+            [Node::Input(0), Node::Input(1), Node::And(0, 1), Node::Input(2), Node::And(2, 3)];
+        let build = [Cnot(0, 5), Cnot(1, 6), Toffoli(5, 6, 4), Cnot(2, 7), Toffoli(4, 7, 3)];
+        let clean = [Cnot(2, 7), Toffoli(5, 6, 4), Cnot(1, 6), Cnot(0, 5)];
+        gives(&program(3, &nodes, &[4]), 4, &[&build[..], &clean].concat());
+    }
+
+    #[test]
+    fn and_of_four_inputs() {
+        let build = [
+            Cnot(0, 7),
+            Cnot(1, 8),
+            Toffoli(7, 8, 6),
+            Cnot(2, 9),
+            Toffoli(6, 9, 5),
+            Cnot(3, 10),
+            Toffoli(5, 10, 4),
+        ];
+        let clean =
+            [Cnot(3, 10), Toffoli(6, 9, 5), Cnot(2, 9), Toffoli(7, 8, 6), Cnot(1, 8), Cnot(0, 7)];
+        gives(&four(), 6, &[&build[..], &clean].concat());
+    }
+
+    /// Why C is reversed: in its own order, the gate on line 5 runs when its controls are 0 again.
+    #[test]
+    fn undone_in_forward_order_work_lines_stay_dirty() {
+        let start = [1, 1, 1, 1, 0, 0, 0, 0, 0, 0, 0];
+        assert_eq!(ran(&circuit(&four()), &start), [1, 1, 1, 1, 1, 0, 0, 0, 0, 0, 0]);
+
+        let mut gates = build(&four().nodes, 6, 4, 5);
+        let again: Vec<Gate> = gates.iter().filter(|gate| gate.target() != 4).copied().collect();
+        gates.extend(again);
+        let forward = Circuit { gates, ..circuit(&four()) };
+        assert_eq!(ran(&forward, &start), [1, 1, 1, 1, 1, 1, 1, 0, 0, 0, 0]);
+    }
+
+    /// Every start of the eleven lines, and not only those with clean work lines.
+    #[test]
+    fn the_right_order_restores_every_work_line() {
+        let circuit = circuit(&four());
+        for state in 0..1 << 11 {
+            let start: Vec<u8> = (0..11).map(|line| (state >> line & 1) as u8).collect();
+            let after = ran(&circuit, &start);
+            assert_eq!((&after[..4], &after[5..]), (&start[..4], &start[5..]));
+            if start[5..] == [0; 6] {
+                let and = u8::from(start[..4] == [1; 4]);
+                assert_eq!(after[4], start[4] ^ and);
+            }
+        }
+    }
+
+    #[test]
+    fn constants_inputs_and_xor() {
+        gives(&program(1, &[Node::Input(0), Node::Xor(0, 0)], &[1]), 0, &[Cnot(0, 1); 2]);
+        gives(&program(0, &[Node::Zero], &[0]), 0, &[]);
+        gives(&program(0, &[Node::One], &[0]), 0, &[Not(0)]);
+        gives(&program(0, &[Node::One, Node::Not(0)], &[1]), 0, &[Not(0), Not(0)]);
+        gives(&program(2, &[Node::Input(1)], &[0]), 0, &[Cnot(1, 2)]);
+        let not =
+            program(2, &[Node::Input(0), Node::Not(0), Node::Input(1), Node::Xor(1, 2)], &[3]);
+        gives(&not, 0, &[Not(2), Cnot(0, 2), Cnot(1, 2)]);
+        // An AND takes two lines even where nothing is built into them.
+        gives(&program(0, &[Node::Zero, Node::And(0, 0)], &[1]), 2, &[Toffoli(1, 2, 0)]);
+    }
+
+    /// A node is built anew at each use, and its lines are not given back in between.
+    #[test]
+    fn a_shared_and_takes_new_lines_at_each_use() {
+        let nodes = [Node::Input(0), Node::And(0, 0), Node::Xor(1, 1)];
+        let build =
+            [Cnot(0, 2), Cnot(0, 3), Toffoli(2, 3, 1), Cnot(0, 4), Cnot(0, 5), Toffoli(4, 5, 1)];
+        let clean = [Cnot(0, 5), Cnot(0, 4), Cnot(0, 3), Cnot(0, 2)];
+        gives(&program(1, &nodes, &[2]), 4, &[&build[..], &clean].concat());
+    }
+
+    /// Each output has its own target, and all work lines are free again before the next.
+    #[test]
+    fn shares_follow_in_output_order() {
+        let nodes = [Node::Input(0), Node::One, Node::And(0, 1), Node::And(2, 0)];
+        let three = program(1, &nodes, &[2, 3, 1]);
+        let first = [Cnot(0, 4), Not(5), Toffoli(4, 5, 1), Not(5), Cnot(0, 4)];
+        let build = [Cnot(0, 5), Not(6), Toffoli(5, 6, 4), Cnot(0, 7), Toffoli(4, 7, 2)];
+        let clean = [Cnot(0, 7), Toffoli(5, 6, 4), Not(6), Cnot(0, 5)];
+        let second = [&build[..], &clean].concat();
+        gives(&three, 4, &[&first[..], &second, &[Not(3)]].concat());
+
+        assert_eq!(shares(&three, 0), []);
+        assert_eq!(shares(&three, 1), first);
+        assert_eq!(shares(&three, 2), [&first[..], &second].concat());
+        assert_eq!(share(&three, 1), second);
+    }
+
+    #[test]
+    fn the_xor_chain_has_no_gates_and_size_16383() {
+        let mut nodes = vec![Node::Zero];
+        nodes.extend((0..13).map(|before| Node::Xor(before, before)));
+        assert_eq!(size(&nodes, 13), 16_383);
+        gives(&program(0, &nodes, &[13]), 0, &[]);
+
+        nodes.extend([Node::Not(13), Node::Not(14), Node::Not(15), Node::And(15, 15)]);
+        assert_eq!((size(&nodes, 14), size(&nodes, 15)), (16_384, 16_385));
+        assert_eq!((size(&nodes, 16), size(&nodes, 17)), (16_386, 32_771));
+        let sizes = sizes(&nodes);
+        assert_eq!(sizes[..4], [1, 3, 7, 15]);
+        assert_eq!(sizes[12..], [8_191, 16_383, 16_384, 16_385, 16_385, 16_385]);
+    }
+}
