@@ -11,7 +11,8 @@ use Rattle.program.specs.Exprs.{Expr, ZERO, ONE, INPUT, NOT, XOR, AND}
 use Rattle.construct.specs.declared.builder.Progress.{Progress}
 use Rattle.construct.specs.Construction.{held, most, second, build}
 use Rattle.construct.specs.Counting.{gateCount}
-use Rattle.construct.specs.Writing.{treeIn, Valid, Stored, Appended, Taken, Built, Room}
+use Rattle.construct.specs.Tables.{treeIn, Valid}
+use Rattle.construct.specs.Writing.{Stored, Appended, Taken, Built, Room}
 use Rattle.construct.proofs.AreaLaws.{stored-none, stored-then}
 use Rattle.construct.proofs.CountLaws.{build-length}
 use Rattle.construct.proofs.LineLaws.{most-not, most-xor-first, most-xor-second, most-and-first, most-and-second}

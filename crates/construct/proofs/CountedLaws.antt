@@ -10,8 +10,8 @@ use Rattle.program.specs.Reading.{outputAt}
 use Rattle.construct.specs.declared.counter.Counts.{Counts}
 use Rattle.construct.specs.declared.counter.Needs.{Needs}
 use Rattle.construct.specs.Construction.{held, most, linesNeeded}
-use Rattle.construct.specs.Counting.{gateCount, ownCount, shareCount, sharesCount, gatesShown}
-use Rattle.construct.specs.Writing.{treeIn, treesIn, Few, Countable, Counted, Needed}
+use Rattle.construct.specs.Counting.{gateCount, ownCount, shareCount, sharesCount, gatesShown, Few, Countable, Counted, Needed}
+use Rattle.construct.specs.Tables.{treeIn, treesIn}
 use Rattle.construct.proofs.CountLaws.{own-few, lines-below-size, gates-within-size, share-within-size}
 use Rattle.construct.proofs.OperandLaws.{Operand, trees-length, tree-at}
 

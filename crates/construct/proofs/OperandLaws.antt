@@ -12,7 +12,7 @@ use Rattle.program.specs.Nodes.{nodeAt, nodesIn}
 use Rattle.program.specs.Reading.{outputAt}
 use Rattle.program.specs.Trees.{trees, treeOf, NodeOk}
 use Rattle.program.proofs.TreeLaws.{trees-at}
-use Rattle.construct.specs.Writing.{treeIn, treesIn, Valid}
+use Rattle.construct.specs.Tables.{treeIn, treesIn, Valid}
 
 -- an operand of node i: lower, and no larger when it is unfolded
 pub record Operand (nodes : List ℕ) (i a : ℕ) : Type 0 where

@@ -14,8 +14,9 @@ use Rattle.circuit.proofs.WriterLaws.{put-length}
 use Rattle.construct.specs.declared.builder.Progress.{Progress}
 use Rattle.construct.specs.Construction.{build, share}
 use Rattle.construct.specs.Counting.{gateCount, shareCount}
+use Rattle.construct.specs.Tables.{treeIn}
+use Rattle.construct.specs.Writing.{gatesFrom, Stored, Reversible, Built, Room, ShareRoom}
 use Rattle.construct.specs.Theorems.{Apart}
-use Rattle.construct.specs.Writing.{treeIn, gatesFrom, Stored, Reversible, Built, Room, ShareRoom}
 use Rattle.construct.proofs.AreaLaws.{put-back, stored-then}
 use Rattle.construct.proofs.CountLaws.{own-few, share-length}
 use Rattle.construct.proofs.LineLaws.{build-formed}

@@ -1,4 +1,5 @@
 pub mod Construction
 pub mod Counting
+pub mod Tables
 pub mod Theorems
 pub mod Writing

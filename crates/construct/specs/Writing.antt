@@ -1,37 +1,22 @@
--- What the functions that count and write the construction ask for, and what they leave.
+-- What the functions that write the construction ask for, and what they leave in the area.
 use mathlib.Core.Path.{_≡_}
 use Prim.Native.Nat.{ℕ, _+_, _-_, _/_, _≤_, _<_}
 use mathlib.Core.List.{List, [], _∷_}
-use lib.ListN.{length, getD, drop}
+use lib.ListN.{length, drop}
 use lib.Dec.{eqb}
-use Rattle.wire.specs.Lists.{tabulateFrom, tabulate}
+use Rattle.wire.specs.Lists.{tabulateFrom}
 use Rattle.gate.specs.declared.gates.Gate.{Gate}
 use Rattle.gate.specs.GateBytes.{gateAt}
 use Rattle.gate.specs.Running.{without, undo}
 use Rattle.circuit.specs.Format.{firstGate, fileLength, putGates}
-use Rattle.program.specs.Exprs.{Expr, ZERO, size}
+use Rattle.program.specs.Exprs.{Expr}
 use Rattle.program.specs.Nodes.{nodesIn}
 use Rattle.program.specs.Reading.{outputAt}
-use Rattle.program.specs.Trees.{trees, TableOk}
+use Rattle.program.specs.Trees.{TableOk}
 use Rattle.construct.specs.declared.builder.Progress.{Progress}
-use Rattle.construct.specs.declared.counter.Counts.{Counts}
-use Rattle.construct.specs.declared.counter.Needs.{Needs}
-use Rattle.construct.specs.Construction.{held, most, build, circuit, linesNeeded}
-use Rattle.construct.specs.Counting.{gateCount, ownCount, shareCount, sharesCount, gatesShown}
-
--- the tree of node i of a node body
-unfoldable pub treeIn : List ℕ → ℕ → Expr
-treeIn nodes i = getD (trees (nodesIn nodes)) i ZERO
-
--- the trees of the outputs that an output body names
-unfoldable pub treesIn : List ℕ → List ℕ → List Expr
-treesIn nodes outputs = tabulate (λ k. treeIn nodes (outputAt outputs k)) (length outputs / 2)
-
--- i is a node of a table in order
-pub record Valid (nodes : List ℕ) (i : ℕ) : Type 0 where
-  pub inputs : ℕ
-  pub ordered : TableOk inputs (nodesIn nodes)
-  pub inside : i < length nodes / 6
+use Rattle.construct.specs.Construction.{held, most, build, linesNeeded}
+use Rattle.construct.specs.Counting.{gateCount, shareCount, sharesCount}
+use Rattle.construct.specs.Tables.{treeIn, treesIn, Valid}
 
 -- gate i of an area
 unfoldable pub gateIn : List ℕ → ℕ → Gate
@@ -94,30 +79,3 @@ pub record Writable (nodes outputs : List ℕ) (n : ℕ) (area : List ℕ) : Typ
   pub named : (k : ℕ) → k < length outputs / 2 → outputAt outputs k < length nodes / 6
   pub lines : n + length outputs / 2 + linesNeeded (treesIn nodes outputs) ≤ 65535
   pub room : fileLength (sharesCount (treesIn nodes outputs)) ≤ length area
-
--- numbers that are small enough to be added
-pub record Few (x : Counts) : Type 0 where
-  pub gates-few : x .gates ≤ 16384
-  pub own-few : x .own ≤ 16384
-  pub lines-few : x .lines ≤ 16384
-
--- node i is small enough for exact counts
-pub record Countable (nodes : List ℕ) (i : ℕ) : Type 0 where
-  pub valid : Valid nodes i
-  pub small : size (treeIn nodes i) ≤ 16384
-
--- so is the node of each output, and there are at most 64 outputs
-pub record AllCountable (nodes outputs : List ℕ) : Type 0 where
-  pub each : (k : ℕ) → k < length outputs / 2 → Countable nodes (outputAt outputs k)
-  pub outputs-most : length outputs / 2 ≤ 64
-
--- a tree's gates and lines, as they are counted
-pub record Counted (e : Expr) (r : Counts) : Type 0 where
-  pub gates-are : r .gates ≡ gatesShown (gateCount e)
-  pub own-are : r .own ≡ ownCount e
-  pub lines-are : r .lines ≡ most e
-
--- the gates and work lines of a circuit, as they are counted: at most 64 times 32,767 gates, so that no sum is too large
-pub record Needed (es : List Expr) (r : Needs) : Type 0 where
-  pub gates-are : r .gates ≡ gatesShown (sharesCount es)
-  pub lines-are : r .lines ≡ linesNeeded es

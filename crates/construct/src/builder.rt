@@ -6,7 +6,8 @@ use program::node::node_at;
 ghost use Prim.Native.Nat.{_+_, _<_, _≤_};
 ghost use lib.ListN.{length};
 ghost use Rattle.circuit.specs.Format.{fileLength};
-ghost use Rattle.construct.specs.Writing.{treeIn, Appended, Taken, Built, Room};
+ghost use Rattle.construct.specs.Tables.{treeIn};
+ghost use Rattle.construct.specs.Writing.{Appended, Taken, Built, Room};
 
 // How far writing has come: how many gates are written, and which line is the lowest free one.
 pub struct Progress {

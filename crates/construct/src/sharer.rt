@@ -4,7 +4,8 @@ use crate::builder::build;
 use crate::reverser::append_reversed;
 use program::reader::output_at;
 ghost use Rattle.construct.specs.Construction.{share, circuit};
-ghost use Rattle.construct.specs.Writing.{treeIn, treesIn, Stored, ShareRoom, Writable};
+ghost use Rattle.construct.specs.Tables.{treeIn, treesIn};
+ghost use Rattle.construct.specs.Writing.{Stored, ShareRoom, Writable};
 
 // Writes the share of node i with this target; the number of gates then. The lines that it took
 // are free again, so that the next share starts with the same p.free.

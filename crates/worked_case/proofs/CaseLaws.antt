@@ -17,8 +17,9 @@ use Rattle.program.specs.Trees.{trees, treesFrom, treeOf, TableOk}
 use Rattle.program.proofs.NodeLaws.{node-ok}
 use Rattle.construct.specs.declared.counter.Needs.{Needs}
 use Rattle.construct.specs.Construction.{held, most, linesNeeded}
-use Rattle.construct.specs.Counting.{gateCount, ownCount, shareCount, sharesCount, gatesShown}
-use Rattle.construct.specs.Writing.{treeIn, treesIn, Valid, AllCountable, Needed, Writable}
+use Rattle.construct.specs.Counting.{gateCount, ownCount, shareCount, sharesCount, gatesShown, AllCountable, Needed}
+use Rattle.construct.specs.Tables.{treeIn, treesIn, Valid}
+use Rattle.construct.specs.Writing.{Writable}
 
 -- INPUT 0, INPUT 1, AND 0 1, INPUT 2, AND 2 3, INPUT 3, AND 4 5
 abbrev pub nodes : List ℕ

@@ -4,7 +4,7 @@ use denote.Ref.{now}
 use Rattle.program.specs.declared.node.Node.the-variants as node
 use Rattle.program.specs.Exprs.{ZERO, ONE, INPUT, NOT, XOR, AND}
 use Rattle.program.specs.Trees.{treeOf}
-use Rattle.construct.specs.Writing.{treeIn}
+use Rattle.construct.specs.Tables.{treeIn}
 use Rattle.construct.proofs.OperandLaws.{Unary, Binary, node-there, tree-is, is-not, is-xor, is-and}
 use Rattle.construct.proofs.BuiltLaws.{built-zero, built-one, built-input, built-not, built-xor, built-and, room-one, room-input, room-not, room-under, room-xor-first, room-xor-second, line-first, room-and-first, line-second, room-and-second, room-toffoli}
 use borrow.Author.Needs.{needs}

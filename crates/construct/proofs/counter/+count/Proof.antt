@@ -4,7 +4,7 @@ use denote.Ref.{now}
 use Rattle.program.specs.declared.node.Node.the-variants as node
 use Rattle.program.specs.Exprs.{ZERO, ONE, INPUT, NOT, XOR, AND}
 use Rattle.program.specs.Trees.{treeOf}
-use Rattle.construct.specs.Writing.{treeIn}
+use Rattle.construct.specs.Tables.{treeIn}
 use Rattle.construct.proofs.OperandLaws.{Unary, Binary, node-there, tree-is, is-not, is-xor, is-and}
 use Rattle.construct.proofs.CountedLaws.{few, countable-operand, counted-zero, counted-one, counted-input, counted-not, counted-xor, counted-and}
 use borrow.Author.Needs.{needs}

@@ -9,11 +9,11 @@ use borrow.Author.Needs.{needs}
 use Prim.Native.Nat.{_-_, _/_}
 use native.Mathlib.Omega.{arith}
 use lib.ListN.{length}
-use Rattle.construct.specs.Writing.{treesIn}
+use Rattle.construct.specs.Counting.{Countable}
+use Rattle.construct.specs.Tables.{treesIn}
 use Rattle.construct.proofs.CountedLaws.{Tallied, tallied-start, tallied-output, tallied-all, few, own-some}
 use Rattle.construct.proofs.OperandLaws.{trees-length}
 use denote.Ref.{now}
-use Rattle.construct.specs.Writing.{Countable}
 
 abbrev claims : lts.Claims
 claims = (
