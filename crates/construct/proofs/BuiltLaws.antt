@@ -75,6 +75,7 @@ room-gate : {nodes : List ℕ} {i t : ℕ} {p : Progress} {l : List ℕ} (k : �
     → k + 1 ≤ p .gates + gateCount (treeIn nodes i) → fileLength (k + 1) ≤ length l′
 room-gate k l′ m same h = omega (arith, m .room, same, h)
 
+-- there is room for each gate and each operand of node i, by its kind
 module _ {nodes : List ℕ} {i t : ℕ} {p : Progress} {l : List ℕ} (m : Room nodes i t p l) where
   pub room-one : treeIn nodes i ≡ ONE → fileLength (p .gates + 1) ≤ length l
   unfolding gateCount
@@ -104,12 +105,14 @@ module _ {nodes : List ℕ} {i t : ℕ} {p : Progress} {l : List ℕ} (m : Room 
         (omega (arith, ap gateCount (k .is)))
         (omega (arith, ap most (k .is), most-xor-first (treeIn nodes a) (treeIn nodes b)))
 
-    pub room-xor-second : {q : Progress} {l₁ : List ℕ} → Built (treeIn nodes a) t p q l l₁ → length l₁ ≡ length l → Room nodes b t q l₁
+    -- there is room for the second wherever it starts, up to where the first ended
+    pub room-xor-second : {q s : Progress} {l₁ : List ℕ} → Built (treeIn nodes a) t p q l l₁ → length l₁ ≡ length l
+        → t < s .free → s .gates ≤ q .gates → s .free ≤ q .free → Room nodes b t s l₁
     unfolding gateCount
-    room-xor-second {q} {l₁} v same =
-        room-part b t q l₁ m (k .second .valid) (omega (arith, m .taken, v .free-to)) same
-        (omega (arith, ap gateCount (k .is), v .stored .count-to, build-length (treeIn nodes a) t (p .free)))
-        (omega (arith, ap most (k .is), most-xor-second (treeIn nodes a) (treeIn nodes b), v .free-to))
+    room-xor-second {q} {s} {l₁} v same h g f =
+        room-part b t s l₁ m (k .second .valid) h same
+        (omega (arith, ap gateCount (k .is), v .stored .count-to, build-length (treeIn nodes a) t (p .free), g))
+        (omega (arith, ap most (k .is), most-xor-second (treeIn nodes a) (treeIn nodes b), v .free-to, f))
 
   module _ {a b : ℕ} (k : Binary AND nodes i a b) where
     first-line : p .free + (1 + most (treeIn nodes a)) ≤ 65535
@@ -133,16 +136,17 @@ module _ {nodes : List ℕ} {i t : ℕ} {p : Progress} {l : List ℕ} (m : Room 
       line-second = omega (arith, second-line, u .free-to, v .free-to)
 
       module _ {q′ : Progress} (u′ : Taken q q′) where
-        pub room-and-second : length l₁ ≡ length l → Room nodes b (q .free) q′ l₁
+        -- there is room for the second on any line that is taken
+        pub room-and-second : {t′ : ℕ} → t′ < q′ .free → length l₁ ≡ length l → Room nodes b t′ q′ l₁
         unfolding gateCount
-        room-and-second same =
-            room-part b (q .free) q′ l₁ m (k .second .valid) (omega (arith, u′ .free-to)) same
+        room-and-second {t′} h same =
+            room-part b t′ q′ l₁ m (k .second .valid) h same
             (omega (arith, ap gateCount (k .is), u .gates-to, v .stored .count-to, build-length (treeIn nodes a) (p .free) (p′ .free), u′ .gates-to))
             (omega (arith, ap most (k .is), most-and-second (treeIn nodes a) (treeIn nodes b), u .free-to, v .free-to, u′ .free-to))
 
-        pub room-toffoli : {r : Progress} {l₂ : List ℕ} → Built (treeIn nodes b) (q .free) q′ r l₁ l₂ → length l₂ ≡ length l → fileLength (r .gates + 1) ≤ length l₂
+        pub room-toffoli : {t′ : ℕ} {r : Progress} {l₂ : List ℕ} → Built (treeIn nodes b) t′ q′ r l₁ l₂ → length l₂ ≡ length l → fileLength (r .gates + 1) ≤ length l₂
         unfolding gateCount
-        room-toffoli {r} {l₂} w same =
+        room-toffoli {t′} {r} {l₂} w same =
             room-gate (r .gates) l₂ m same
             (omega (
               arith,
@@ -152,5 +156,5 @@ module _ {nodes : List ℕ} {i t : ℕ} {p : Progress} {l : List ℕ} (m : Room 
               build-length (treeIn nodes a) (p .free) (p′ .free),
               u′ .gates-to,
               w .stored .count-to,
-              build-length (treeIn nodes b) (q .free) (q′ .free),
+              build-length (treeIn nodes b) t′ (q′ .free),
             ))

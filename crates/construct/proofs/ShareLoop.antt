@@ -78,14 +78,14 @@ module _ (nodes outputs : List ℕ) (n : ℕ) where
         }
 
     module _ {area : List ℕ} {gates k : ℕ} (p : Writing area₀ area gates k) where
-      -- there is room for the next share
-      pub writing-room : k < m → Writable nodes outputs n area₀
-          → ShareRoom nodes (outputAt outputs k) (n + k) (record { gates = gates; free = n + m }) area
-      writing-room h w =
+      -- there is room for the next share, on any target
+      pub writing-room : {t : ℕ} → k < m → Writable nodes outputs n area₀ → n ≤ t → t < n + m
+          → ShareRoom nodes (outputAt outputs k) t (record { gates = gates; free = n + m }) area
+      writing-room h w behind taken =
           record {
             valid = record { inputs = n; ordered = w .ordered; inside = w .named k h };
-            behind = omega arith;
-            taken = omega arith;
+            behind = behind;
+            taken = taken;
             lines = omega (arith, w .lines, ap most (tree-at nodes outputs k h), most-needed es k (omega (arith, trees-length nodes outputs)));
             room =
                 omega (

@@ -65,14 +65,14 @@ module _ {nodes : List ℕ} {i t : ℕ} {p : Progress} {area : List ℕ} (r : Sh
         ∙ put-back 65535 (omega arith) area (p .gates) built (build-formed (r .valid .inputs) (treeIn nodes i) t (p .free) 65535 share-apart)
         (omega (arith, r .room, share-parts))
 
-    -- there is room to write them again
-    pub reverse-room : Reversible area₁ (p .gates) (q .gates) (q .gates) t
-    reverse-room =
+    -- there is room to write them again, if no more are written than where the target is left out
+    pub reverse-room : {out : ℕ} → length (undo (eqb out) built) ≤ length (undo (eqb t) built) → Reversible area₁ (p .gates) (q .gates) (q .gates) out
+    reverse-room few =
         let same : length area₁ ≡ length area = ap (λ (l : List ℕ). length l) (b .stored .area-to) ∙ put-length area (p .gates) built in
         record {
           ordered = omega (arith, b .stored .count-to);
           before = omega arith;
-          room = rw built-back (omega (arith, r .room, share-parts, same, b .stored .count-to));
+          room = rw built-back (omega (arith, r .room, share-parts, same, b .stored .count-to, few));
         }
 
     -- building and undoing write the share

@@ -16,7 +16,7 @@ treeIn nodes i = getD (trees (nodesIn nodes)) i ZERO
 unfoldable pub treesIn : List ℕ → List ℕ → List Expr
 treesIn nodes outputs = tabulate (λ k. treeIn nodes (outputAt outputs k)) (length outputs / 2)
 
--- i is a node of a table in order
+-- i is a node of a table that is in order over some number of inputs
 pub record Valid (nodes : List ℕ) (i : ℕ) : Type 0 where
   pub inputs : ℕ
   pub ordered : TableOk inputs (nodesIn nodes)

@@ -107,7 +107,13 @@ module _ (t : ℕ) where
   cast-build-3 c = search needs
 
   build-requires-3 : build-lts.Need-build-requires-3 (claims t) (build-at t) build.Post
-  build-requires-3 c κs = let k = as-xor (c .before .before .before .before .before .before) in (omega (arith, k .second .low, c .before .before .before .before .before .before .before .before .before .before .before .pre .0), room-xor-second (c .before .before .before .before .before .before .before .before .before .before .before .pre .1) k (c .before .before .before .build2 .ensures) (c .before .before .before .build2 .kept .1 .1 .1 .1 .0))
+  build-requires-3 c κs =
+      let k = as-xor (c .before .before .before .before .before .before) in
+      let m = c .before .before .before .before .before .before .before .before .before .before .before .pre .1 in
+      let v = c .before .before .before .build2 .ensures in (
+        omega (arith, k .second .low, c .before .before .before .before .before .before .before .before .before .before .before .pre .0),
+        room-xor-second m k v (c .before .before .before .build2 .kept .1 .1 .1 .1 .0) (omega (arith, m .taken, v .free-to)) (omega (arith, v .stored .count-to)) (omega (arith, v .free-to)),
+      )
 
   enum-known-node-4 : build-lts.Need-enum-known-node-4 (claims t) (build-at t) build.Post
   enum-known-node-4 c = search needs
@@ -128,7 +134,14 @@ module _ (t : ℕ) where
   take-line-requires-2 c κs = line-second (c .before .before .before .before .before .before .before .before .before .before .before .pre .1) (as-and (c .before .before .before .before .before .before)) (c .before .before .before .before .take-line .ensures) (c .before .before .build4 .ensures)
 
   build-requires-5 : build-lts.Need-build-requires-5 (claims t) (build-at t) build.Post
-  build-requires-5 c κs = let k = as-and (c .before .before .before .before .before .before .before .before) in (omega (arith, k .second .low, c .before .before .before .before .before .before .before .before .before .before .before .before .before .pre .0), room-and-second (c .before .before .before .before .before .before .before .before .before .before .before .before .before .pre .1) k (c .before .before .before .before .before .before .take-line .ensures) (c .before .before .before .before .build4 .ensures) (c .before .take-line2 .ensures) (c .before .before .before .before .build4 .kept .1 .1 .1 .1 .0))
+  build-requires-5 c κs =
+      let k = as-and (c .before .before .before .before .before .before .before .before) in
+      let u = c .before .before .before .before .before .before .take-line .ensures in
+      let v = c .before .before .before .before .build4 .ensures in
+      let u′ = c .before .take-line2 .ensures in (
+        omega (arith, k .second .low, c .before .before .before .before .before .before .before .before .before .before .before .before .before .pre .0),
+        room-and-second (c .before .before .before .before .before .before .before .before .before .before .before .before .before .pre .1) k u v u′ (omega (arith, u .free-to, v .free-to, u′ .free-to)) (c .before .before .before .before .build4 .kept .1 .1 .1 .1 .0),
+      )
 
   append-requires-4 : build-lts.Need-append-requires-4 (claims t) (build-at t) build.Post
   append-requires-4 c κs = room-toffoli (c .before .before .before .before .before .before .before .before .before .before .before .before .before .before .before .before .before .pre .1) (as-and (c .before .before .before .before .before .before .before .before .before .before .before .before)) (c .before .before .before .before .before .before .before .before .before .before .take-line .ensures) (c .before .before .before .before .before .before .before .before .build4 .ensures) (c .before .before .before .before .before .take-line2 .ensures) (c .before .before .before .build5 .ensures) (c .before .before .before .build5 .kept .1 .1 .1 .1 .0 ∙ c .before .before .before .before .before .before .before .before .build4 .kept .1 .1 .1 .1 .0)

@@ -1,4 +1,5 @@
 use borrow.Author.Needs.{needs}
+use native.Mathlib.Omega.{arith}
 use Rattle.construct.proofs.sharer.write_share.Statement.{statement}
 use Rattle.construct.proofs.sharer.write_share.Tie as tie
 use Rattle.construct.proofs.WriteLaws.{build-room, reverse-room, share-stored}
@@ -7,7 +8,7 @@ build-requires : tie.Need-build-requires
 build-requires c κs = build-room (c .before .before .before .pre)
 
 append-reversed-requires : tie.Need-append-reversed-requires
-append-reversed-requires c κs = reverse-room (c .before .before .before .before .before .before .before .pre) (c .before .before .before .build .ensures)
+append-reversed-requires c κs = reverse-room (c .before .before .before .before .before .before .before .pre) (c .before .before .before .build .ensures) (omega arith)
 
 same-length : tie.Need-same-length
 same-length c = search needs

@@ -31,7 +31,7 @@ output-at-requires : tie.Need-output-at-requires Inv-loop μ-loop
 output-at-requires c κs = search needs
 
 write-share-requires : tie.Need-write-share-requires Inv-loop μ-loop
-write-share-requires c κs = rw (c .before .output-at .ensures) (writing-room _ _ _ _ (c .before .before .before .loop .inv) (c .before .before .loop-test .taken) (c .before .before .before .before .before .before .before .pre))
+write-share-requires c κs = rw (c .before .output-at .ensures) (writing-room _ _ _ _ (c .before .before .before .loop .inv) (c .before .before .loop-test .taken) (c .before .before .before .before .before .before .before .pre) (omega arith) (omega (arith, c .before .before .loop-test .taken)))
 
 add-k : tie.Need-add-k Inv-loop μ-loop
 add-k c = search needs
