@@ -2,8 +2,8 @@
  *
  * Every function takes any bytes, any lengths and any numbers, ends, and touches nothing but the
  * areas lent to it. An area is a pointer and its length; where the length is 0 the pointer may be
- * null. Areas of one call must not overlap. Nothing is kept after a call: no heap, no state, and a
- * few hundred bytes of stack.
+ * null. Areas of one call must not overlap. Nothing is kept after a call: no heap, no state. A call
+ * takes a few hundred bytes of stack; oracle_compile takes more, and says how much.
  */
 #ifndef ORACLE_H
 #define ORACLE_H
@@ -46,6 +46,29 @@ oracle_answer oracle_evaluate(const uint8_t *file, size_t file_length,
                               uint8_t *values, size_t values_length,
                               const uint8_t *inputs, size_t inputs_length,
                               uint64_t output);
+
+/* Compiles a program file to the circuit file that computes its outputs.
+ *
+ * grant   the number of work lines that the circuit may take, at most 1,024.
+ * sizes   an entry for each node at least; 4,096 are always enough. After a result and after
+ *         refusals 8 to 11, entry i is the unfolded size of node i (1, and the sizes of its
+ *         operands, one that is used twice counted twice), or 16,385 if that is less, and entries
+ *         behind the last node are as they were. After refusals 1 to 7 all of it is.
+ * area    28 bytes, and 8 for each gate, at least; 64,028 bytes are always enough. After a result
+ *         the file written is at its start, and the bytes behind it are as they were. After
+ *         refusal 11 all of it is zero. After any other refusal it is as it was.
+ *
+ * Result: value is the number of bytes written. Refusals: 1 to 11, checked in this order; the place
+ * of 8 is the lowest output whose unfolded size is over 16,384, that of 10 the number of work lines
+ * needed, and that of 11 the number of gates needed, where there are over 8,000 or the area is too
+ * short for them. The program file is only read.
+ *
+ * Stack: the construction calls itself, up to 4,096 deep. The deepest programs that were tried took
+ * 1,052,672 bytes; lend a thread at least 2 MiB.
+ */
+oracle_answer oracle_compile(const uint8_t *file, size_t file_length, uint64_t grant,
+                             uint16_t *sizes, size_t sizes_length,
+                             uint8_t *area, size_t area_length);
 
 /* Reads and checks a circuit file.
  *

@@ -30,4 +30,13 @@ static void holds(bool test, const char *what)
     }
 }
 
+/* Whether every byte is this one. */
+static inline bool filled(const uint8_t *area, size_t length, uint8_t byte)
+{
+    for (size_t i = 0; i < length; i++)
+        if (area[i] != byte)
+            return false;
+    return true;
+}
+
 #endif

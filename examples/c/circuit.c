@@ -4,22 +4,10 @@
 #include <stdio.h>
 #include <string.h>
 
+#include "and.h"
 #include "check.h"
 
-/* AND of two inputs: lines 0 and 1 are the inputs, 2 is the target, 3 and 4 are work lines. */
-static const uint8_t and_circuit[] = {
-    2, 0,                                           /* two entries: tag, start, length */
-    17, 0, 22, 0, 0, 0, 6,  0, 0, 0,
-    18, 0, 28, 0, 0, 0, 40, 0, 0, 0,
-    2, 0, 1, 0, 2, 0,                               /* inputs, outputs, work lines */
-    2, 0, 0, 0, 0, 0, 3, 0,                         /* C 0 3 */
-    2, 0, 1, 0, 0, 0, 4, 0,                         /* C 1 4 */
-    3, 0, 3, 0, 4, 0, 2, 0,                         /* T 3 4 2 */
-    2, 0, 1, 0, 0, 0, 4, 0,                         /* C 1 4 */
-    2, 0, 0, 0, 0, 0, 3, 0,                         /* C 0 3 */
-};
-
-/* The same without the gate on line 2, from the last gate to the first. */
+/* The circuit without the gate on line 2, from the last gate to the first. */
 static const uint8_t undone_circuit[] = {
     2, 0,
     17, 0, 22, 0, 0, 0, 6,  0, 0, 0,
@@ -34,14 +22,6 @@ static const uint8_t undone_circuit[] = {
 enum { LENGTH = sizeof and_circuit, UNDONE = sizeof undone_circuit, LINES = 5 };
 
 static const uint8_t only_the_target[LINES] = {0, 0, 1, 0, 0};
-
-static bool filled(const uint8_t *area, size_t length, uint8_t byte)
-{
-    for (size_t i = 0; i < length; i++)
-        if (area[i] != byte)
-            return false;
-    return true;
-}
 
 /* Runs forwards from a start and checks every line, then back to the start. */
 static void run(const uint8_t start[LINES], const uint8_t end[LINES])

@@ -3,20 +3,8 @@
 #include <stdio.h>
 #include <string.h>
 
+#include "and.h"
 #include "check.h"
-
-/* Two inputs, one output: INPUT 0, INPUT 1, AND 0 1; the output is node 2. */
-static const uint8_t and_program[] = {
-    3, 0,                                           /* three entries: tag, start, length */
-    1, 0, 32, 0, 0, 0, 4,  0, 0, 0,
-    2, 0, 36, 0, 0, 0, 18, 0, 0, 0,
-    3, 0, 54, 0, 0, 0, 2,  0, 0, 0,
-    2, 0, 1, 0,                                     /* inputs, outputs */
-    2, 0, 0, 0, 0, 0,                               /* INPUT 0 */
-    2, 0, 1, 0, 0, 0,                               /* INPUT 1 */
-    5, 0, 0, 0, 1, 0,                               /* AND 0 1 */
-    2, 0,                                           /* output 0 is node 2 */
-};
 
 int main(void)
 {

@@ -19,9 +19,9 @@ use Rattle.gate.proofs.UndoLaws.{without-append, without-few, undo-snoc, undo-l
 use Rattle.gate.proofs.WellFormedLaws.{target-below}
 use Rattle.circuit.specs.declared.reader.CircuitHead.{CircuitHead}
 use Rattle.circuit.specs.Circuits.{Circuit, headOf, gatesIn}
-use Rattle.circuit.specs.Format.{fileLength, openingBytes, circuitFile, putGates, Small}
+use Rattle.circuit.specs.Format.{fileLength, openingBytes, circuitFile, putGates, areaAfter, Small}
 use Rattle.circuit.specs.Reading.{readWithLines}
-use Rattle.circuit.specs.UndoCircuit.{chosen, undoCircuit, undoFile, areaAfter, Choosable, Undoable}
+use Rattle.circuit.specs.UndoCircuit.{chosen, undoCircuit, undoFile, Choosable, Undoable}
 use Rattle.circuit.proofs.AcceptedLaws.{accepted, legal, with-lines, lines-gates, reader-room}
 use Rattle.circuit.proofs.RunLaws.{gates-from, gates-none, gates-whole, gates-last, gates-first-none, gate-formed}
 use Rattle.circuit.proofs.WriterLaws.{put-length, put-none, put-append, file-length, file-written}

@@ -1,9 +1,14 @@
 -- The bytes of a circuit file.
 use Prim.Native.Nat.{ℕ, _+_, _*_, _≤_}
+use mathlib.Core.Bool.{cond}
 use mathlib.Core.List.{List, [], _∷_, _++_}
+use lib.ListN.{length, drop, replicate}
+use lib.Dec.{eqb}
 use lib.Seq.{sets}
+use Rattle.wire.specs.Answers.{Answer, result, refused, numberOf}
 use Rattle.wire.specs.Bytes.{bytes16}
 use Rattle.wire.specs.Contents.{tableLength, contentsBytes}
+use Rattle.wire.specs.declared.refusals.Refusal.the-variants as cause
 use Rattle.gate.specs.declared.gates.Gate.{Gate}
 use Rattle.gate.specs.GateBytes.{gatesBytes}
 use Rattle.circuit.specs.declared.reader.CircuitHead.{CircuitHead}
@@ -40,6 +45,11 @@ circuitFile c = openingBytes (headOf c) ++ gatesBytes (c .gates)
 -- an area with these gates stored, the first of them as gate k
 unfoldable pub putGates : List ℕ → ℕ → List Gate → List ℕ
 putGates area k gs = sets area (fileLength k) (gatesBytes gs)
+
+-- a lent circuit area at exit: the file and, behind it, what was there; all zero on cause 11; on every other refusal as it was
+abbrev pub areaAfter : Answer Circuit → List ℕ → List ℕ
+areaAfter (result c) area = circuitFile c ++ drop (length (circuitFile c)) area
+areaAfter (refused n p) area = cond (eqb n (numberOf (cause.Room p))) (replicate (length area) 0) area
 
 -- a head whose numbers are small enough for their fields
 pub record Small (h : CircuitHead) : Type 0 where

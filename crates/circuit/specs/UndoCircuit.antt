@@ -1,10 +1,10 @@
 -- Undoing a circuit file except on chosen lines.
 use Prim.Native.Nat.{ℕ, _+_, _*_, _<_, _≤_}
-use mathlib.Core.Bool.{Bool, cond}
-use mathlib.Core.List.{List, _++_}
-use lib.ListN.{length, drop, replicate}
+use mathlib.Core.Bool.{Bool}
+use mathlib.Core.List.{List}
+use lib.ListN.{length}
 use lib.Dec.{eqb, leb}
-use Rattle.wire.specs.Answers.{Answer, result, refused, refuse, check, andThen, numberOf}
+use Rattle.wire.specs.Answers.{Answer, result, refuse, check, andThen}
 use Rattle.wire.specs.Bits.{bit}
 use Rattle.wire.specs.declared.refusals.Refusal.the-variants as cause
 use Rattle.gate.specs.Gates.{target, WellFormed, All}
@@ -32,11 +32,6 @@ undoFile file choices room =
     andThen (readWithLines file choices) (λ c.
     check (leb (length (circuitFile (undoCircuit choices c))) room) (cause.Room (length (undoCircuit choices c .gates)))  -- 11
     (result (undoCircuit choices c)))
-
--- a lent circuit area at exit: the file and, behind it, what was there; all zero on cause 11; on every other refusal as it was
-abbrev pub areaAfter : Answer Circuit → List ℕ → List ℕ
-areaAfter (result c) area = circuitFile c ++ drop (length (circuitFile c)) area
-areaAfter (refused n p) area = cond (eqb n (numberOf (cause.Room p))) (replicate (length area) 0) area
 
 -- the service's answer in 01's terms: the numbers of the circuit written, or a number and a place
 abbrev pub undone : Undone → Answer CircuitHead

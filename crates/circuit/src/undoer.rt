@@ -19,8 +19,8 @@ ghost use Rattle.gate.specs.Gates.{target};
 ghost use Rattle.gate.specs.GateBytes.{gateAt};
 ghost use Rattle.gate.specs.Running.{without, undo};
 ghost use Rattle.circuit.specs.Circuits.{gatesIn, headOf};
-ghost use Rattle.circuit.specs.Format.{fileLength, putGates};
-ghost use Rattle.circuit.specs.UndoCircuit.{chosen, undoFile, areaAfter, undone, Choosable, Undoable};
+ghost use Rattle.circuit.specs.Format.{fileLength, putGates, areaAfter};
+ghost use Rattle.circuit.specs.UndoCircuit.{chosen, undoFile, undone, Choosable, Undoable};
 
 // What undoing a circuit answers: the numbers of the circuit written.
 pub enum Undone {

@@ -12,7 +12,7 @@ use Rattle.construct.specs.declared.builder.Progress.{Progress}
 use Rattle.construct.specs.Construction.{held, most, second, build}
 use Rattle.construct.specs.Counting.{gateCount}
 use Rattle.construct.specs.Tables.{treeIn, Valid}
-use Rattle.construct.specs.Writing.{Stored, Appended, Taken, Built, Room}
+use Rattle.construct.specs.Writing.{Stored, Appended, Built, Room}
 use Rattle.construct.proofs.AreaLaws.{stored-none, stored-then}
 use Rattle.construct.proofs.CountLaws.{build-length}
 use Rattle.construct.proofs.LineLaws.{most-not, most-xor-first, most-xor-second, most-and-first, most-and-second}
@@ -45,20 +45,21 @@ pub built-xor : {a b : Expr} {t : ℕ} {p q r : Progress} {l l₁ l₂ : List �
 unfolding build held
 built-xor v w = record { stored = stored-then (v .stored) (rw (v .free-to) at (w .stored)); free-to = omega (arith, v .free-to, w .free-to) }
 
-pub built-and : {a b : Expr} {t : ℕ} {p p′ q q′ r z : Progress} {l l₁ l₂ l₃ : List ℕ}
-    → Taken p p′ → Built a (p .free) p′ q l l₁ → Taken q q′ → Built b (q .free) q′ r l₁ l₂
+pub built-and : {a b : Expr} {t f′ g′ : ℕ} {p q r z : Progress} {l l₁ l₂ l₃ : List ℕ}
+    → f′ ≡ p .free + 1 → Built a (p .free) (record { gates = p .gates; free = f′ }) q l l₁
+    → g′ ≡ q .free + 1 → Built b (q .free) (record { gates = q .gates; free = g′ }) r l₁ l₂
     → Appended (Toffoli (p .free) (q .free) t) r z l₂ l₃ → Built (AND a b) t p z l l₃
 unfolding build held second
-built-and {a} {b} {t} {p} {p′} {q} {q′} {r} {z} {l} {l₁} {l₂} {l₃} u v u′ w x =
+built-and {a} {b} {t} {f′} {g′} {p} {q} {r} {z} {l} {l₁} {l₂} {l₃} u v u′ w x =
     let f : ℕ = p .free in
     let g : ℕ = second f a in
-    let taken : q .free ≡ g = v .free-to ∙ ap (λ (n : ℕ). n + held a) (u .free-to) in
-    let one : Stored (build a f (f + 1)) (p .gates) (q .gates) l l₁ = rw (u .free-to, u .gates-to) at (v .stored) in
-    let two : Stored (build b g (g + 1)) (q .gates) (r .gates) l₁ l₂ = rw (u′ .free-to, u′ .gates-to, taken) at (w .stored) in
+    let taken : q .free ≡ g = v .free-to ∙ ap (λ (n : ℕ). n + held a) u in
+    let one : Stored (build a f (f + 1)) (p .gates) (q .gates) l l₁ = rw u at (v .stored) in
+    let two : Stored (build b g (g + 1)) (q .gates) (r .gates) l₁ l₂ = rw (u′, taken) at (w .stored) in
     let three : Stored (Toffoli f g t ∷ []) (r .gates) (z .gates) l₂ l₃ = rw taken at (x .stored) in
     record {
       stored = stored-then one (stored-then two three);
-      free-to = omega (arith, x .free-to, w .free-to, u′ .free-to, taken);
+      free-to = omega (arith, x .free-to, w .free-to, u′, taken);
     }
 
 -- the room for node i is enough for a part of it that starts later and ends no later
@@ -124,37 +125,31 @@ module _ {nodes : List ℕ} {i t : ℕ} {p : Progress} {l : List ℕ} (m : Room 
     pub line-first : p .free < 65535
     line-first = omega (arith, first-line)
 
-    pub room-and-first : {p′ : Progress} → Taken p p′ → Room nodes a (p .free) p′ l
-    unfolding gateCount
-    room-and-first {p′} u =
-        room-part a (p .free) p′ l m (k .first .valid) (omega (arith, u .free-to)) refl
-        (omega (arith, ap gateCount (k .is), u .gates-to))
-        (omega (arith, ap most (k .is), most-and-first (treeIn nodes a) (treeIn nodes b), u .free-to))
+    module _ {f′ : ℕ} (u : f′ ≡ p .free + 1) where
+      -- there is room for the first on any line that is taken
+      pub room-and-first : {t′ : ℕ} → t′ < f′ → Room nodes a t′ (record { gates = p .gates; free = f′ }) l
+      unfolding gateCount
+      room-and-first {t′} h =
+          room-part a t′ (record { gates = p .gates; free = f′ }) l m (k .first .valid) h refl
+          (omega (arith, ap gateCount (k .is)))
+          (omega (arith, ap most (k .is), most-and-first (treeIn nodes a) (treeIn nodes b)))
 
-    module _ {p′ q : Progress} {l₁ : List ℕ} (u : Taken p p′) (v : Built (treeIn nodes a) (p .free) p′ q l l₁) where
-      pub line-second : q .free < 65535
-      line-second = omega (arith, second-line, u .free-to, v .free-to)
+      module _ {t₁ : ℕ} {q : Progress} {l₁ : List ℕ} (v : Built (treeIn nodes a) t₁ (record { gates = p .gates; free = f′ }) q l l₁) where
+        pub line-second : q .free < 65535
+        line-second = omega (arith, second-line, v .free-to)
 
-      module _ {q′ : Progress} (u′ : Taken q q′) where
-        -- there is room for the second on any line that is taken
-        pub room-and-second : {t′ : ℕ} → t′ < q′ .free → length l₁ ≡ length l → Room nodes b t′ q′ l₁
-        unfolding gateCount
-        room-and-second {t′} h same =
-            room-part b t′ q′ l₁ m (k .second .valid) h same
-            (omega (arith, ap gateCount (k .is), u .gates-to, v .stored .count-to, build-length (treeIn nodes a) (p .free) (p′ .free), u′ .gates-to))
-            (omega (arith, ap most (k .is), most-and-second (treeIn nodes a) (treeIn nodes b), u .free-to, v .free-to, u′ .free-to))
+        module _ {g′ : ℕ} (u′ : g′ ≡ q .free + 1) where
+          -- there is room for the second on any line that is taken
+          pub room-and-second : {t′ : ℕ} → t′ < g′ → length l₁ ≡ length l → Room nodes b t′ (record { gates = q .gates; free = g′ }) l₁
+          unfolding gateCount
+          room-and-second {t′} h same =
+              room-part b t′ (record { gates = q .gates; free = g′ }) l₁ m (k .second .valid) h same
+              (omega (arith, ap gateCount (k .is), v .stored .count-to, build-length (treeIn nodes a) t₁ f′))
+              (omega (arith, ap most (k .is), most-and-second (treeIn nodes a) (treeIn nodes b), v .free-to))
 
-        pub room-toffoli : {t′ : ℕ} {r : Progress} {l₂ : List ℕ} → Built (treeIn nodes b) t′ q′ r l₁ l₂ → length l₂ ≡ length l → fileLength (r .gates + 1) ≤ length l₂
-        unfolding gateCount
-        room-toffoli {t′} {r} {l₂} w same =
-            room-gate (r .gates) l₂ m same
-            (omega (
-              arith,
-              ap gateCount (k .is),
-              u .gates-to,
-              v .stored .count-to,
-              build-length (treeIn nodes a) (p .free) (p′ .free),
-              u′ .gates-to,
-              w .stored .count-to,
-              build-length (treeIn nodes b) t′ (q′ .free),
-            ))
+          pub room-toffoli : {t₂ : ℕ} {r : Progress} {l₂ : List ℕ} → Built (treeIn nodes b) t₂ (record { gates = q .gates; free = g′ }) r l₁ l₂ → length l₂ ≡ length l
+              → fileLength (r .gates + 1) ≤ length l₂
+          unfolding gateCount
+          room-toffoli {t₂} {r} {l₂} w same =
+              room-gate (r .gates) l₂ m same
+              (omega (arith, ap gateCount (k .is), v .stored .count-to, build-length (treeIn nodes a) t₁ f′, w .stored .count-to, build-length (treeIn nodes b) t₂ g′))

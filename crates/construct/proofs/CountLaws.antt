@@ -13,7 +13,7 @@ use Rattle.gate.specs.Running.{without, undo}
 use Rattle.gate.proofs.UndoLaws.{without-none, without-both, undo-length}
 use Rattle.program.specs.Exprs.{Expr, ZERO, ONE, INPUT, NOT, XOR, AND, size}
 use Rattle.construct.specs.Construction.{held, most, second, build, share, shares, circuit}
-use Rattle.construct.specs.Counting.{gateCount, ownCount, shareCount, sharesCount}
+use Rattle.construct.specs.Counting.{gateCount, ownCount, shareCount, sharesCount, gatesShown}
 use Rattle.construct.proofs.LineLaws.{most-held, build-misses}
 
 -- a tree is built by as many gates as are counted
@@ -116,3 +116,12 @@ own-or-fewer (AND a b) = omega (arith, gates-within-size a, gates-within-size b)
 pub share-within-size : (e : Expr) → shareCount e + 1 ≤ 2 * size e
 unfolding shareCount
 share-within-size e = omega (arith, own-or-fewer e, own-few e)
+
+-- what counting shows is exact up to 8,000 gates, and more where there are more
+pub shown-within : (k : ℕ) → gatesShown k ≤ 8000 → gatesShown k ≡ k
+unfolding gatesShown
+shown-within k h = refl
+
+pub shown-over : (k : ℕ) → 8000 < gatesShown k → 8000 < k
+unfolding gatesShown
+shown-over k h = h

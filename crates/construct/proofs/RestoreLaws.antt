@@ -137,8 +137,8 @@ lines-take (suc j) [] = omega arith
 lines-take (suc j) (e ∷ es) = omega (arith, lines-take j es)
 
 -- what the first j shares leave
-shares-after : (n : ℕ) (es : List Expr) → EachBelow n es → (start : List ℕ) → Start n es start → (j : ℕ) → j ≤ length es
-    → After n es j start (run (firstShares n es j) start)
+shares-after : (n : ℕ) (es : List Expr) → EachBelow n es → (start : List ℕ) → Start (n + length es + linesNeeded es) start → (j : ℕ) → j ≤ length es
+    → After n (length es) (linesNeeded es) (λ k. value (getD es k ZERO) (take n start)) j start (run (firstShares n es j) start)
 unfolding firstShares
 shares-after n es w start st j h =
     let f : ℕ = n + length es in
@@ -150,6 +150,7 @@ shares-after n es w start st j h =
     let left : (i : ℕ) → (n ≤ i → n + j ≤ i) → bit (run (shares ds n f) start) i ≡ bit start i =
     λ i q. shares-leave n ds n f start p (st .bits) i (λ r. omega (arith, q r)) in
     record {
+      long = length-run (shares ds n f) start;
       inputs = λ i q. left i (λ r. omega arith);
       work = λ i q. left i (λ r. omega arith);
       waiting = λ k q r. left (n + k) (λ u. omega arith);

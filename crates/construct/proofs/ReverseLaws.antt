@@ -20,11 +20,11 @@ use Rattle.circuit.proofs.WriterLaws.{put-length, put-none, put-append}
 use Rattle.construct.specs.Writing.{gateIn, gatesFrom, Stored, Repeatable, Reversible}
 use Rattle.construct.proofs.AreaLaws.{put-before, from-last, stored-none}
 
--- a gate read from the part that starts at the first gate
-pub from-part : (area : List ℕ) (i : ℕ) {g : Gate} → g ≡ gateAt (take (length area - firstGate) (drop firstGate area)) i → g ≡ gateIn area i
+-- a gate of the part that starts at the first gate is that of the area
+pub from-part : (area : List ℕ) (i : ℕ) → gateAt (take (length area - firstGate) (drop firstGate area)) i ≡ gateIn area i
 unfolding gateIn
-from-part area i e =
-    e ∙ ap (λ (l : List ℕ). gateAt l i) (take-all (length area - firstGate) (drop firstGate area) (omega (arith, length-drop firstGate area)))
+from-part area i =
+    ap (λ (l : List ℕ). gateAt l i) (take-all (length area - firstGate) (drop firstGate area) (omega (arith, length-drop firstGate area)))
 
 module _ (area : List ℕ) (i k out : ℕ) where
   -- a gate that is left out is not written again

@@ -54,9 +54,9 @@ abbrev pub ShareRestores : Type 0
 ShareRestores =
     (n : ℕ) (e : Expr) (t f : ℕ) (s : List ℕ) → Apart n e t f (length s) → Bits s → (i : ℕ) → i ≢ t → bit (run (share e t f) s) i ≡ bit s i
 
--- a start (01): one bit for each of the lines
-pub record Start (n : ℕ) (es : List Expr) (start : List ℕ) : Type 0 where
-  pub long : length start ≡ n + length es + linesNeeded es
+-- a start (01): one bit for each of so many lines
+pub record Start (lines : ℕ) (start : List ℕ) : Type 0 where
+  pub long : length start ≡ lines
   pub bits : Bits start
 
 -- the shares of the first j outputs
@@ -67,15 +67,16 @@ firstShares n es j = shares (take j es) n (n + length es)
 unfoldable pub shareOf : ℕ → List Expr → ℕ → List Gate
 shareOf n es j = share (getD es j ZERO) (n + j) (n + length es)
 
--- what the shares of the first j outputs leave of the lines of a start
-pub record After (n : ℕ) (es : List Expr) (j : ℕ) (start after : List ℕ) : Type 0 where
+-- what the shares of the first j of m outputs leave of a start, where there are n inputs and w work lines, and v k is the value of output k
+pub record After (n m w : ℕ) (v : ℕ → ℕ) (j : ℕ) (start after : List ℕ) : Type 0 where
+  pub long : length after ≡ length start
   -- every input line and every work line is as it started
   pub inputs : (i : ℕ) → i < n → bit after i ≡ bit start i
-  pub work : (i : ℕ) → n + length es ≤ i → bit after i ≡ bit start i
+  pub work : (i : ℕ) → n + m ≤ i → bit after i ≡ bit start i
   -- a target whose share is not over holds its first bit
-  pub waiting : (k : ℕ) → j ≤ k → k < length es → bit after (n + k) ≡ bit start (n + k)
-  -- where every work line starts at 0, a target whose share is over holds its first bit XOR its output's value on the input lines
-  pub over : Zeros (n + length es) (linesNeeded es) start → (k : ℕ) → k < j → bit after (n + k) ≡ xorBit (bit start (n + k)) (value (getD es k ZERO) (take n start))
+  pub waiting : (k : ℕ) → j ≤ k → k < m → bit after (n + k) ≡ bit start (n + k)
+  -- where every work line starts at 0, a target whose share is over holds its first bit XOR its output's value
+  pub over : Zeros (n + m) w start → (k : ℕ) → k < j → bit after (n + k) ≡ xorBit (bit start (n + k)) (v k)
 
 -- the shares restore the lines: one claim about the whole run, with every j in it
 pub record SharesRestore (n : ℕ) (es : List Expr) : Type 0 where
@@ -84,4 +85,6 @@ pub record SharesRestore (n : ℕ) (es : List Expr) : Type 0 where
   pub whole : firstShares n es (length es) ≡ circuit n es
   -- each share finds the lines as the one before left them
   pub follows : (start : List ℕ) (j : ℕ) → j < length es → run (firstShares n es (j + 1)) start ≡ run (shareOf n es j) (run (firstShares n es j) start)
-  pub holds : (start : List ℕ) → Start n es start → (j : ℕ) → j ≤ length es → After n es j start (run (firstShares n es j) start)
+  -- the values are those on the input lines
+  pub holds : (start : List ℕ) → Start (n + length es + linesNeeded es) start → (j : ℕ) → j ≤ length es
+      → After n (length es) (linesNeeded es) (λ k. value (getD es k ZERO) (take n start)) j start (run (firstShares n es j) start)

@@ -48,11 +48,6 @@ pub record Appended (g : Gate) (p r : Progress) (old new : List ℕ) : Type 0 wh
   pub stored : Stored (g ∷ []) (p .gates) (r .gates) old new
   pub free-to : r .free ≡ p .free
 
--- the lowest free line is taken
-pub record Taken (p r : Progress) : Type 0 where
-  pub gates-to : r .gates ≡ p .gates
-  pub free-to : r .free ≡ p .free + 1
-
 -- a tree is built into line t
 pub record Built (e : Expr) (t : ℕ) (p r : Progress) (old new : List ℕ) : Type 0 where
   pub stored : Stored (build e t (p .free)) (p .gates) (r .gates) old new

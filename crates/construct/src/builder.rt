@@ -3,16 +3,17 @@ use circuit::writer::write_gate;
 use gate::gates::Gate;
 use program::node::Node;
 use program::node::node_at;
+ghost use mathlib.Core.Path.{_≡_};
 ghost use Prim.Native.Nat.{_+_, _<_, _≤_};
 ghost use lib.ListN.{length};
 ghost use Rattle.circuit.specs.Format.{fileLength};
 ghost use Rattle.construct.specs.Tables.{treeIn};
-ghost use Rattle.construct.specs.Writing.{Appended, Taken, Built, Room};
+ghost use Rattle.construct.specs.Writing.{Appended, Built, Room};
 
 // How far writing has come: how many gates are written, and which line is the lowest free one.
 pub struct Progress {
     pub gates: usize,
-    pub free: u16,
+    pub free: usize,
 }
 
 // Writes the next gate.
@@ -28,40 +29,49 @@ fn append(area: &mut [u8], p: Progress, gate: Gate) -> Progress
     }
 }
 
-// Takes the lowest free line, which is p.free.
-fn take_line(p: Progress) -> Progress
-    requires { ⌜ p .free < 65535 ⌝ }
-    ensures { λ r. ⌜ Taken p r ⌝ }
+// Takes the lowest free line; the lowest that is free then.
+fn take_line(free: usize) -> usize
+    requires { ⌜ free < 65535 ⌝ }
+    ensures { λ r. ⌜ r ≡ free + 1 ⌝ }
 {
-    Progress {
-        gates: p.gates,
-        free: p.free + 1,
-    }
+    free + 1
 }
 
-// XORs node i into the line target. Calls itself on the operands, whose indices are lower.
-pub fn build(nodes: &[u8], i: usize, target: u16, p: Progress, area: &mut [u8]) -> Progress
-    requires { ⌜ Room (now nodes) i target p (now area) ⌝ }
-    ensures { λ r. ⌜ Built (treeIn (now (nodes .entry)) i) target p r (now (area .entry)) (now (area .exit)) ⌝ }
+// XORs node i into the line target, where so many gates are written and the line free is the lowest
+// free one. Calls itself on the operands, whose indices are lower.
+pub fn build(
+    nodes: &[u8],
+    i: usize,
+    target: u16,
+    gates: usize,
+    free: usize,
+    area: &mut [u8],
+) -> Progress
+    requires { ⌜ Room (now nodes) i target (record { gates = gates; free = free }) (now area) ⌝ }
+    ensures { λ r. ⌜ Built (treeIn (now (nodes .entry)) i) target (record { gates = gates; free = free }) r (now (area .entry)) (now (area .exit)) ⌝ }
 {
     let node = node_at(nodes, i);
     match node {
-        Node::Zero => p,
-        Node::One => append(area, p, Gate::Not { target }),
-        Node::Input(j) => append(area, p, Gate::Cnot { control: j, target }),
+        Node::Zero => Progress { gates, free },
+        Node::One => append(area, Progress { gates, free }, Gate::Not { target }),
+        Node::Input(j) => append(
+            area,
+            Progress { gates, free },
+            Gate::Cnot { control: j, target },
+        ),
         Node::Not(a) => {
-            let q = append(area, p, Gate::Not { target });
-            build(nodes, a as usize, target, q, area)
+            let q = append(area, Progress { gates, free }, Gate::Not { target });
+            build(nodes, a as usize, target, q.gates, q.free, area)
         }
         Node::Xor(a, b) => {
-            let q = build(nodes, a as usize, target, p, area);
-            build(nodes, b as usize, target, q, area)
+            let q = build(nodes, a as usize, target, gates, free, area);
+            build(nodes, b as usize, target, q.gates, q.free, area)
         }
         Node::And(a, b) => {
-            let first = p.free;
-            let q = build(nodes, a as usize, first, take_line(p), area);
-            let second = q.free;
-            let r = build(nodes, b as usize, second, take_line(q), area);
+            let first = free as u16;
+            let q = build(nodes, a as usize, first, gates, take_line(free), area);
+            let second = q.free as u16;
+            let r = build(nodes, b as usize, second, q.gates, take_line(q.free), area);
             append(
                 area,
                 r,

@@ -3,7 +3,7 @@
 use circuit::layout::FIRST_GATE;
 use circuit::writer::write_gate;
 use gate::gates::gate_at;
-use gate::gates::target_of;
+use gate::gates::target_at;
 ghost use mathlib.Core.List.{_∷_, []};
 ghost use Prim.Native.Nat.{_-_};
 ghost use lib.Dec.{eqb};
@@ -15,10 +15,10 @@ fn append_again(area: &mut [u8], i: usize, k: usize, excluded: u16) -> usize
     requires { ⌜ Repeatable (now area) i k excluded ⌝ }
     ensures { λ r. ⌜ Stored (without (eqb excluded) (gateIn (now (area .entry)) i ∷ [])) k r (now (area .entry)) (now (area .exit)) ⌝ }
 {
-    let gate = gate_at(&area[FIRST_GATE..], i);
-    if excluded == target_of(gate) {
+    if excluded == target_at(&area[FIRST_GATE..], i) {
         return k;
     }
+    let gate = gate_at(&area[FIRST_GATE..], i);
     write_gate(area, k, gate);
     k + 1
 }

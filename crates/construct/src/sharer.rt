@@ -14,7 +14,7 @@ fn write_share(nodes: &[u8], i: usize, target: u16, p: Progress, area: &mut [u8]
     ensures { λ r. ⌜ Stored (share (treeIn (now (nodes .entry)) i) target (p .free)) (p .gates) r (now (area .entry)) (now (area .exit)) ⌝ }
 {
     let from = p.gates;
-    let q = build(nodes, i, target, p, area);
+    let q = build(nodes, i, target, from, p.free, area);
     let to = q.gates;
     append_reversed(area, from, to, to, target)
 }
@@ -24,7 +24,7 @@ pub fn write_shares(nodes: &[u8], outputs: &[u8], inputs: usize, area: &mut [u8]
     requires { ⌜ Writable (now nodes) (now outputs) inputs (now area) ⌝ }
     ensures { λ r. ⌜ Stored (circuit inputs (treesIn (now (nodes .entry)) (now (outputs .entry)))) 0 r (now (area .entry)) (now (area .exit)) ⌝ }
 {
-    let free = (inputs + outputs.len() / 2) as u16;
+    let free = inputs + outputs.len() / 2;
     let mut gates = 0;
     let mut k = 0;
     while k < outputs.len() / 2 {

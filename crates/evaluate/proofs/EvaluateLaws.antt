@@ -10,17 +10,16 @@ use borrow.Author.Tests.{le-leb, lt-leb, lt-ltb, le-ltb}
 use Rattle.wire.specs.Answers.{Answer, result, refused, refuse}
 use Rattle.wire.specs.Bits.{bit, bitsFit}
 use Rattle.wire.specs.Contents.{bodyOf}
-use Rattle.wire.specs.Lists.{tabulate}
 use Rattle.wire.specs.declared.refusals.Refusal.the-variants as cause
 use Rattle.wire.proofs.BitLaws.{bits-count, bits-are}
 use Rattle.program.specs.declared.node.Node.{Node}
 use Rattle.program.specs.declared.reader.Head.{Head}
 use Rattle.program.specs.Exprs.{ZERO, value}
-use Rattle.program.specs.Nodes.{nodeAt, nodesIn}
+use Rattle.program.specs.Nodes.{nodesIn}
 use Rattle.program.specs.Programs.{outputTree, outputValue, nodeValues}
 use Rattle.program.specs.Reading.{inputsOf, outputsOf, nodesOf, outputAt, programOf, readProgram}
 use Rattle.program.specs.Trees.{trees}
-use Rattle.program.proofs.AcceptedLaws.{Read, nodes-length, outputs-length, output-is, inputs-is, table-ok}
+use Rattle.program.proofs.AcceptedLaws.{Read, nodes-length, same-nodes, outputs-length, output-is, inputs-is, table-ok}
 use Rattle.program.proofs.ReadingLaws.{nodes-counted, outputs-long}
 use Rattle.program.proofs.ValueLaws.{values-length, values-at}
 use Rattle.evaluate.specs.Evaluating.{evaluateProgram, evaluateFile, evaluateOf}
@@ -85,17 +84,13 @@ module _ (f list x : List ℕ) (k : ℕ) where
     unfolding evaluateProgram
     output-bad room e s = refuses 15 0 (program-is ∙ simp (fits room, same-test ∙ e, le-ltb k (length (programOf f .outputs)) (omega (arith, head-outputs))))
 
-    same-nodes : nodesIn (bodyOf f 1) ≡ programOf f .nodes
-    unfolding programOf
-    same-nodes = ap (tabulate (nodeAt (bodyOf f 1))) (nodes-counted f (r .accepts .sized))
-
     module _ (q : Ready) where
       -- the nodes can be evaluated
       pub fillable : Fillable (bodyOf f 1) x (length list)
       fillable =
           let n : length x ≡ inputsOf f = bits-count (h .inputs) x (q .bits) ∙ head-inputs ∙ inputs-is f (r .accepts) in
           record {
-            ok = rw (n, same-nodes) (table-ok f (r .accepts));
+            ok = rw (n, same-nodes f (r .accepts)) (table-ok f (r .accepts));
             bits = bits-are (h .inputs) x (q .bits);
             fits = omega (arith, nodes-counted f (r .accepts .sized), head-nodes, nodes-length f (r .accepts), q .room);
           }
@@ -124,12 +119,16 @@ module _ (f list x : List ℕ) (k : ℕ) where
       unfolding evaluateProgram
       found = program-is ∙ simp (fits (q .room), same-test ∙ q .bits, lt-ltb k (length (programOf f .outputs)) (omega (arith, head-outputs, q .output)))
 
+      -- the answer is the output's value
+      pub output-answered : evaluateOf f list x k .answer ≡ result (outputValue (programOf f) x k)
+      output-answered = sym (finds (outputValue (programOf f) x k) (nodeValues (programOf f .nodes) x) found .answer)
+
       pub output-found : (l : List ℕ) → l ≡ nodeValues (nodesIn (bodyOf f 1)) x ++ drop (length (bodyOf f 1) / 6) list → Outcome (result (getD l (outputAt (bodyOf f 2) k) 0)) l
       output-found l w =
           let all : List ℕ = nodeValues (programOf f .nodes) x in
           let o = finds (outputValue (programOf f) x k) all found in
           let is : l ≡ all ++ drop (length all) list =
-          w ∙ ap₂ (λ (ns : List Node) (n : ℕ). nodeValues ns x ++ drop n list) same-nodes (nodes-counted f (r .accepts .sized) ∙ sym all-counted) in
+          w ∙ ap₂ (λ (ns : List Node) (n : ℕ). nodeValues ns x ++ drop n list) (same-nodes f (r .accepts)) (nodes-counted f (r .accepts .sized) ∙ sym all-counted) in
           let bit-is : getD l (outputAt (bodyOf f 2) k) 0 ≡ outputValue (programOf f) x k =
           ap (λ (v : List ℕ). getD v (outputAt (bodyOf f 2) k) 0) is
           ∙ List·getD-append all (drop (length all) list) 0 (outputAt (bodyOf f 2) k) (omega (arith, all-counted, r .accepts .outputs-fit k within))

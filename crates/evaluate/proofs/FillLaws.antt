@@ -1,12 +1,13 @@
 -- Laws of filling the value list. Assumes nothing.
 use Prim.Native.Nat.{ℕ, _+_, _/_, _<_, _≤_}
 use native.Mathlib.Omega.{arith}
-use mathlib.Core.Path.{_≡_, refl, sym, ap, ap₂, _∙_}
-use mathlib.Core.List.{List, [], _∷_, _++_}
-use lib.ListN.{length, getD, take, drop, set, length-set}
-use lib.Seq.{take-all, take-at, set-at, append-snoc, length-take-le, getD-take}
+use mathlib.Core.Path.{_≡_, sym, ap, ap₂, _∙_}
+use mathlib.Core.List.{List, _++_}
+use lib.ListN.{length, getD, take, drop, set}
+use lib.Seq.{length-take-le, getD-take}
 use Rattle.wire.specs.Bits.{bit}
-use Rattle.wire.proofs.ListLaws.{drop-next, take-next, tabulate-length, tabulate-at}
+use Rattle.wire.proofs.FillLaws.{Filled, filled-front, filled-next, filled-all}
+use Rattle.wire.proofs.ListLaws.{tabulate-length, tabulate-at}
 use Rattle.program.specs.declared.node.Node.{Node}
 use Rattle.program.specs.declared.node.Node.the-variants.{Zero, Input, Not, Xor, And}
 use Rattle.program.specs.Nodes.{nodeAt, nodesIn}
@@ -36,69 +37,44 @@ module _ {o : Node} {vs x : List ℕ} (v : Valued o vs x) where
   pub and-operands : {a b : ℕ} → o ≡ And a b → Operand a vs × Operand b vs
   and-operands {a} {b} e = let k : NodeOk (length x) (length vs) (And a b) = rw e at (v .ok) in (operand a (k .0), operand b (k .1))
 
--- a loop has stored the values of the first i nodes in the list, which was list₀
-pub record Filled (body x list₀ list : List ℕ) (i : ℕ) : Type 0 where
-  pub within : i ≤ length body / 6
-  pub same : length list ≡ length list₀
-  pub is : list ≡ take i (nodeValues (nodesIn body) x) ++ drop i list₀
+module _ (body x : List ℕ) where
+  -- there is a value for each node of the body
+  values-count : length (nodeValues (nodesIn body) x) ≡ length body / 6
+  values-count = values-length (nodesIn body) x ∙ tabulate-length (nodeAt body) (length body / 6)
 
-module _ (body x list₀ : List ℕ) where
-  count : length (nodeValues (nodesIn body) x) ≡ length body / 6
-  count = values-length (nodesIn body) x ∙ tabulate-length (nodeAt body) (length body / 6)
+  -- a loop has stored the values of the first i nodes
+  module _ {list₀ list : List ℕ} {i : ℕ} (p : Filled (nodeValues (nodesIn body) x) list₀ list i) (f : Fillable body x (length list₀)) (h : i < length body / 6) where
+    node : getD (nodesIn body) i Zero ≡ nodeAt body i
+    node = tabulate-at (nodeAt body) (length body / 6) i Zero h
 
-  pub filled-start : Filled body x list₀ list₀ 0
-  filled-start = record { within = omega arith; same = refl; is = refl }
+    inside : i < length (nodesIn body)
+    inside = omega (arith, tabulate-length (nodeAt body) (length body / 6))
 
-  module _ {list : List ℕ} {i : ℕ} (p : Filled body x list₀ list i) where
-    stored : length (take i (nodeValues (nodesIn body) x)) ≡ i
-    stored = length-take-le i (nodeValues (nodesIn body) x) (omega (arith, count, p .within))
+    front-bit : (k : ℕ) → k < i → bit (take i list) k < 2
+    front-bit k q =
+        let e : bit (take i list) k ≡ bit (nodeValues (nodesIn body) x) k = ap (λ (l : List ℕ). bit l k) (filled-front p) ∙ getD-take i (nodeValues (nodesIn body) x) k 0 q in
+        rw e (values-bits (nodesIn body) x (f .bits) k (omega (arith, values-count)))
 
-    -- the first i entries are values
-    pub filled-front : take i list ≡ take i (nodeValues (nodesIn body) x)
-    filled-front = ap (take i) (p .is) ∙ take-at (take i (nodeValues (nodesIn body) x)) (drop i list₀) i stored
+    -- the next node can be evaluated from them
+    pub filled-valued : Valued (nodeAt body i) (take i list) x
+    filled-valued =
+        let l : length (take i list) ≡ i = length-take-le i list (omega (arith, p .same, f .fits)) in
+        record {
+          ok = rw (l, ← node) (f .ok i inside);
+          value-bits = λ k q. front-bit k (omega (arith, l));
+          input-bits = f .bits;
+        }
 
-    module _ (f : Fillable body x (length list₀)) (h : i < length body / 6) where
-      node : getD (nodesIn body) i Zero ≡ nodeAt body i
-      node = tabulate-at (nodeAt body) (length body / 6) i Zero h
+    -- and its value is stored
+    pub value-stored : {v : ℕ} → v ≡ nodeValue (nodeAt body i) (take i list) x → Filled (nodeValues (nodesIn body) x) list₀ (set list i v) (i + 1)
+    value-stored {v} e =
+        let known : v ≡ getD (nodeValues (nodesIn body) x) i 0 =
+        e
+        ∙ ap₂ (λ (o : Node) (l : List ℕ). nodeValue o l x) (sym node) (filled-front p)
+        ∙ sym (value-next (nodesIn body) x (length x) (f .ok) i inside) in
+        filled-next p known (omega (arith, values-count)) (omega (arith, values-count, f .fits))
 
-      front-bit : (k : ℕ) → k < i → bit (take i list) k < 2
-      front-bit k q =
-          let e : bit (take i list) k ≡ bit (nodeValues (nodesIn body) x) k = ap (λ (l : List ℕ). bit l k) filled-front ∙ getD-take i (nodeValues (nodesIn body) x) k 0 q in
-          rw e (values-bits (nodesIn body) x (f .bits) k (omega (arith, count)))
-
-      -- the next node can be evaluated from them
-      pub filled-valued : Valued (nodeAt body i) (take i list) x
-      filled-valued =
-          let ns : List Node = nodesIn body in
-          let l : length (take i list) ≡ i = ap length filled-front ∙ stored in
-          record {
-            ok = rw (l, ← node) (f .ok i (omega (arith, tabulate-length (nodeAt body) (length body / 6))));
-            value-bits = λ k q. front-bit k (omega (arith, l));
-            input-bits = f .bits;
-          }
-
-      pub filled-next : {v : ℕ} → v ≡ nodeValue (nodeAt body i) (take i list) x → Filled body x list₀ (set list i v) (i + 1)
-      filled-next {v} e =
-          let all : List ℕ = nodeValues (nodesIn body) x in
-          let short : i < length all = omega (arith, count) in
-          let fits : i < length list₀ = omega (arith, f .fits) in
-          let known : v ≡ getD all i 0 =
-          e
-          ∙ ap₂ (λ (o : Node) (l : List ℕ). nodeValue o l x) (sym node) filled-front
-          ∙ sym (value-next (nodesIn body) x (length x) (f .ok) i (omega (arith, tabulate-length (nodeAt body) (length body / 6)))) in
-          let joined : (take i all ++ (getD all i 0 ∷ [])) ++ drop (i + 1) list₀ ≡ take i all ++ getD all i 0 ∷ drop (i + 1) list₀ = append-snoc (take i all) (getD all i 0) (drop (i + 1) list₀) in
-          record {
-            within = omega arith;
-            same = length-set list i v ∙ p .same;
-            is =
-                ap₂ (λ (l : List ℕ) (w : ℕ). set l i w) (p .is ∙ ap (λ (l : List ℕ). take i all ++ l) (drop-next list₀ i 0 fits)) known
-                ∙ set-at (take i all) (getD list₀ i 0) (drop (i + 1) list₀) (getD all i 0) i stored
-                ∙ sym joined
-                ∙ ap (λ (l : List ℕ). l ++ drop (i + 1) list₀) (sym (take-next all i 0 short));
-          }
-
-    -- every value is stored
-    pub filled-all : length body / 6 ≤ i → list ≡ nodeValues (nodesIn body) x ++ drop (length body / 6) list₀
-    filled-all h =
-        let e : i ≡ length body / 6 = omega (arith, p .within) in
-        p .is ∙ ap₂ (λ (l : List ℕ) (n : ℕ). l ++ drop n list₀) (take-all i (nodeValues (nodesIn body) x) (omega (arith, count))) e
+  -- every value is stored
+  pub values-stored : {list₀ list : List ℕ} {i : ℕ} → Filled (nodeValues (nodesIn body) x) list₀ list i → length body / 6 ≤ i
+      → list ≡ nodeValues (nodesIn body) x ++ drop (length body / 6) list₀
+  values-stored {list₀} p h = filled-all p (omega (arith, values-count)) ∙ ap (λ (n : ℕ). nodeValues (nodesIn body) x ++ drop n list₀) values-count

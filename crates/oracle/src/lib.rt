@@ -1,6 +1,7 @@
 // What loaders link: one exported C function for each service, with the service's parameters in
 // their order. A slice is a pointer and then a length.
 use circuit::layout::FIRST_GATE;
+use circuit::reader::CircuitHead;
 use circuit::reader::CircuitRead;
 use circuit::reader::read_circuit;
 use circuit::runner::Ran;
@@ -8,22 +9,27 @@ use circuit::runner::run_backwards;
 use circuit::runner::run_forwards;
 use circuit::undoer::Undone;
 use circuit::undoer::undo;
+use compile::Compiled;
+use compile::compile;
 use evaluate::Evaluated;
 use evaluate::evaluate;
 use program::reader::ProgramRead;
 use program::reader::read_program;
 use wire::refusals::Refusal;
 ghost use mathlib.Core.Path.{_≡_};
+ghost use Prim.Native.Nat.{_≤_};
 ghost use lib.ListN.{length};
-ghost use Rattle.wire.specs.Answers.{refuse, mapAnswer};
+ghost use Rattle.wire.specs.Answers.{result, refuse, mapAnswer};
 ghost use Rattle.circuit.specs.Circuits.{gateCount};
-ghost use Rattle.circuit.specs.Format.{circuitFile};
+ghost use Rattle.circuit.specs.Format.{circuitFile, areaAfter, fileLength};
 ghost use Rattle.circuit.specs.Reading.{readCircuit};
 ghost use Rattle.circuit.specs.RunCircuit.{runForwards, runBackwards, linesAfter, done, ran};
-ghost use Rattle.circuit.specs.UndoCircuit.{undoFile, areaAfter};
+ghost use Rattle.circuit.specs.UndoCircuit.{undoFile};
 ghost use Rattle.program.specs.Programs.{nodeCount};
 ghost use Rattle.program.specs.Reading.{readProgram};
 ghost use Rattle.evaluate.specs.Evaluating.{evaluateOf};
+ghost use Rattle.compile.specs.Compiling.{compileOf};
+ghost use Rattle.compile.specs.Demand.{Demand3};
 ghost use Rattle.oracle.specs.Exported.{exported};
 
 // Number 0 and the value of a result, or the number and the place of a refusal.
@@ -40,6 +46,17 @@ fn refusal(why: Refusal) -> OracleAnswer
     OracleAnswer {
         number: why.number(),
         value: why.place(),
+    }
+}
+
+// What writing a circuit file answers: the number of its bytes.
+fn written(head: CircuitHead) -> OracleAnswer
+    requires { ⌜ head .gates ≤ 8000 ⌝ }
+    ensures { λ r. ⌜ r ≡ exported (result (fileLength (head .gates))) ⌝ }
+{
+    OracleAnswer {
+        number: 0,
+        value: (FIRST_GATE + 8 * head.gates) as u64,
     }
 }
 
@@ -130,10 +147,27 @@ pub extern "C" fn oracle_undo(file: &[u8], choices: &[u8], area: &mut [u8]) -> O
     ensures { λ _. ⌜ now (area .exit) ≡ areaAfter (undoFile (now (file .entry)) (now (choices .entry)) (length (now (area .entry)))) (now (area .entry)) ⌝ }
 {
     match undo(file, choices, area) {
-        Undone::Written(head) => OracleAnswer {
-            number: 0,
-            value: (FIRST_GATE + 8 * head.gates) as u64,
-        },
+        Undone::Written(head) => written(head),
         Undone::Refused(why) => refusal(why),
+    }
+}
+
+// Compiles a program file with a grant of work lines; the value of a result is the number of bytes
+// written.
+#[no_mangle]
+pub extern "C" fn oracle_compile(
+    file: &[u8],
+    grant: u64,
+    sizes: &mut [u16],
+    area: &mut [u8],
+) -> OracleAnswer
+    ensures { λ r. ⌜ r ≡ exported (mapAnswer (λ h. fileLength (h .gates)) (compileOf (now (file .entry)) grant (now (sizes .entry)) (now (area .entry)) .answer)) ⌝ }
+    ensures { λ _. ⌜ now (sizes .exit) ≡ compileOf (now (file .entry)) grant (now (sizes .entry)) (now (area .entry)) .sizes ⌝ }
+    ensures { λ _. ⌜ now (area .exit) ≡ compileOf (now (file .entry)) grant (now (sizes .entry)) (now (area .entry)) .area ⌝ }
+    ensures { λ _. ⌜ Demand3 (now (file .entry)) grant (now (sizes .entry)) (now (area .entry)) ⌝ }
+{
+    match compile(file, grant, sizes, area) {
+        Compiled::Written(head) => written(head),
+        Compiled::Refused(why) => refusal(why),
     }
 }

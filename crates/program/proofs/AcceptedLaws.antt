@@ -10,6 +10,7 @@ use borrow.Author.Tests.{ltb-true, leb-true}
 use Rattle.wire.specs.Answers.{Answer, result, refuse, check, mapAnswer, numberOf, placeOf}
 use Rattle.wire.specs.Checks.{allBelow, lowest}
 use Rattle.wire.specs.Contents.{tableFits, entriesFit, bodyOf}
+use Rattle.wire.specs.Lists.{tabulate}
 use Rattle.wire.specs.declared.refusals.Refusal.{Refusal}
 use Rattle.wire.specs.declared.refusals.Refusal.the-variants as cause
 use Rattle.wire.proofs.AnswerLaws.{checked, checked-next, came, came-refused}
@@ -19,14 +20,14 @@ use Rattle.program.specs.declared.node.Node.the-variants.{Zero}
 use Rattle.program.specs.declared.reader.Head.{Head}
 use Rattle.program.specs.declared.reader.ProgramRead.{ProgramRead}
 use Rattle.program.specs.declared.reader.ProgramRead.the-variants.{Good, Refused}
-use Rattle.program.specs.Nodes.{nodeAt, nodeFits}
+use Rattle.program.specs.Nodes.{nodeAt, nodesIn, nodeFits}
 use Rattle.program.specs.Programs.{Program, headOf}
 use Rattle.program.specs.Layout.{Sized}
 use Rattle.program.specs.Reading.{tags, inputsOf, outputsOf, nodesOf, lengthsFit, rangesFit, outputAt, outputFits, programOf, readBodies, readProgram, programRead}
 use Rattle.program.specs.Trees.{trees, TableOk}
 use Rattle.program.specs.Exprs.{ZERO, InputsBelow}
 use Rattle.program.proofs.NodeLaws.{node-ok}
-use Rattle.program.proofs.ReadingLaws.{laid, sized}
+use Rattle.program.proofs.ReadingLaws.{laid, sized, nodes-counted}
 use Rattle.program.proofs.TreeLaws.{trees-below}
 
 -- an accepted file: every test held
@@ -108,6 +109,11 @@ module _ (f : List ℕ) (a : Accepted f) where
   pub nodes-length : length (programOf f .nodes) ≡ nodesOf f
   unfolding programOf
   nodes-length = tabulate-length (nodeAt (bodyOf f 1)) (nodesOf f)
+
+  -- they are the nodes of the node body
+  pub same-nodes : nodesIn (bodyOf f 1) ≡ programOf f .nodes
+  unfolding programOf
+  same-nodes = ap (tabulate (nodeAt (bodyOf f 1))) (nodes-counted f (a .sized))
 
   pub node-is : (i : ℕ) → i < nodesOf f → getD (programOf f .nodes) i Zero ≡ nodeAt (bodyOf f 1) i
   unfolding programOf

@@ -1,10 +1,10 @@
 -- Laws of tests: what holds where several hold together, and the lowest index at which one fails. Assumes nothing.
 use Prim.Native.Nat.{ℕ, zero, suc, _+_, _-_, _<_, _≤_}
 use native.Mathlib.Omega.{arith}
-use native.Mathlib.Nat.{add-zero}
+use native.Mathlib.Nat.{zero-add, add-zero}
 use native.Mathlib.Numerals.{add-one}
-use mathlib.Core.Path.{_≡_, refl, sym, ap, _∙_}
-use mathlib.Core.Bool.{Bool, true, false, _&&_, false≢true}
+use mathlib.Core.Path.{_≡_, refl, sym, ap, ap₂, _∙_}
+use mathlib.Core.Bool.{Bool, true, false, cond, _&&_, false≢true}
 use borrow.Author.Tests.{eqb-true, eq-eqb}
 use Rattle.wire.specs.Checks.{lowestFrom, lowest, allBelow}
 
@@ -88,3 +88,16 @@ module _ (test : ℕ → Bool) where
   -- and where it holds at each, it fails at none
   pub below-all : (k : ℕ) → ((j : ℕ) → j < k → test j ≡ true) → allBelow test k ≡ true
   below-all k h = eq-eqb (lowest test k) k (passed-all (passed-below k h k (omega arith)) (omega arith))
+
+lowestFrom-same : (f g : ℕ → Bool) (i k : ℕ) → ((j : ℕ) → j < k → f (i + j) ≡ g (i + j)) → lowestFrom f i k ≡ lowestFrom g i k
+unfolding lowestFrom
+lowestFrom-same f g i zero h = refl
+lowestFrom-same f g i (suc k) h =
+    let here : f i ≡ g i = rw add-zero at (h 0 (omega arith)) in
+    let later : lowestFrom f (suc i) k ≡ lowestFrom g (suc i) k =
+    lowestFrom-same f g (suc i) k (λ j l. let e : suc i + j ≡ i + suc j = omega arith in rw e (h (suc j) (omega arith))) in
+    ap₂ (λ (b : Bool) (m : ℕ). cond b m i) here later
+
+-- two tests that agree at every index below k fail first at the same
+pub lowest-same : (f g : ℕ → Bool) (k : ℕ) → ((j : ℕ) → j < k → f j ≡ g j) → lowest f k ≡ lowest g k
+lowest-same f g k h = lowestFrom-same f g 0 k (λ j l. rw zero-add (h j l))

@@ -2,8 +2,8 @@
 use Prim.Native.Nat.{ℕ, zero, suc, _+_, _<_, _≤_}
 use native.Mathlib.Omega.{arith}
 use native.Mathlib.Nat.{add-zero}
-use mathlib.Core.Path.{_≡_, refl, sym, ap, _∙_}
-use mathlib.Core.List.{List, [], _∷_, _++_}
+use mathlib.Core.Path.{_≡_, refl, sym, ap, ap₂, _∙_}
+use mathlib.Core.List.{List, [], _∷_, _++_, map}
 use native.Mathlib.Numerals.{add-one}
 use lib.ListN.{length, getD, take, drop, set, length-set}
 use Rattle.wire.specs.Lists.{tabulateFrom, tabulate}
@@ -45,6 +45,12 @@ sets-in l i (v ∷ vs) (suc j) h r =
     ap (λ (n : ℕ). getD (sets l i (v ∷ vs)) n 0) e
     ∙ sets-in (set l i v) (suc i) vs j (omega arith) (omega (arith, length-set l i v))
 
+-- an element of a mapped list, whatever stands for those past the end
+pub map-at : {A B : Type 0} (f : A → B) (l : List A) (i : ℕ) (d : A) (e : B) → i < length l → getD (map f l) i e ≡ f (getD l i d)
+map-at f [] i d e h = absurd (omega arith)
+map-at f (a ∷ l) zero d e h = refl
+map-at f (a ∷ l) (suc i) d e h = map-at f l i d e (omega arith)
+
 -- a list made by index has as many elements as were asked for, each where its index says
 tabulateFrom-length : {A : Type 0} (make : ℕ → A) (i k : ℕ) → length (tabulateFrom make i k) ≡ k
 unfolding tabulateFrom
@@ -66,3 +72,12 @@ pub tabulate-at : {A : Type 0} (make : ℕ → A) (k j : ℕ) (d : A) → j < k 
 tabulate-at make k j d h =
     let e : 0 + j ≡ j = omega arith in
     tabulateFrom-at make 0 k j d h ∙ ap make e
+
+-- lists made of the same entries are the same
+tabulateFrom-same : {A : Type 0} (f g : ℕ → A) (i k : ℕ) → ((j : ℕ) → i ≤ j → j < i + k → f j ≡ g j) → tabulateFrom f i k ≡ tabulateFrom g i k
+unfolding tabulateFrom
+tabulateFrom-same f g i zero h = refl
+tabulateFrom-same f g i (suc k) h = ap₂ _∷_ (h i (omega arith) (omega arith)) (tabulateFrom-same f g (suc i) k (λ j p q. h j (omega arith) (omega arith)))
+
+pub tabulate-same : {A : Type 0} (f g : ℕ → A) (k : ℕ) → ((j : ℕ) → j < k → f j ≡ g j) → tabulate f k ≡ tabulate g k
+tabulate-same f g k h = tabulateFrom-same f g 0 k (λ j p q. h j (omega arith))

@@ -1,10 +1,14 @@
 //! Program and circuit files for the tests that hold `liboracle.a` against the model: written field
-//! by field, shaped at every limit of the formats, or drawn at random, whole and damaged.
+//! by field, shaped at every limit of the formats and of compiling, or drawn at random, whole and
+//! damaged; and the cases of the listing program.
 
 pub mod circuit;
 pub mod damage;
+pub mod drawn;
 pub mod layout;
 pub mod lent;
+pub mod limits;
+pub mod listing_cases;
 pub mod program;
 pub mod random;
 pub mod shaped;

@@ -52,6 +52,32 @@ pub fn whole_case() -> Program {
     Program::new(2, &[input(0), input(1), and(0, 1)], &[2])
 }
 
+/// NOR as AND of two NOTs.
+pub fn nor() -> Program {
+    Program::new(2, &[input(0), input(1), not(0), not(1), and(2, 3)], &[4])
+}
+
+/// AND(AND(input 0, input 1), input 2).
+pub fn and_of_three() -> Program {
+    Program::new(3, &[input(0), input(1), and(0, 1), input(2), and(2, 3)], &[4])
+}
+
+/// AND of the three-input case's AND with a fourth input.
+pub fn and_of_four() -> Program {
+    let nodes = [input(0), input(1), and(0, 1), input(2), and(2, 3), input(3), and(4, 5)];
+    Program::new(4, &nodes, &[6])
+}
+
+/// XOR of input 0 with itself.
+pub fn xor_with_itself() -> Program {
+    Program::new(1, &[input(0), xor(0, 0)], &[1])
+}
+
+/// One output, ZERO.
+pub fn output_zero() -> Program {
+    Program::new(0, &[ZERO], &[0])
+}
+
 /// The example of 01 whose node 13 has size 16,383, with NOT of it and NOT of that.
 pub fn xor_chain() -> Program {
     let mut nodes = vec![ZERO];
@@ -69,22 +95,11 @@ fn accepted_programs() -> Vec<Shaped> {
     vec![
         accepted("the whole case as bytes", WHOLE_CASE.to_vec(), 3),
         accepted("the whole case from fields", whole_case().bytes(), 3),
-        accepted(
-            "NOR as AND of two NOTs",
-            Program::new(2, &[input(0), input(1), not(0), not(1), and(2, 3)], &[4]).bytes(),
-            5,
-        ),
-        accepted(
-            "AND of three inputs",
-            Program::new(3, &[input(0), input(1), input(2), and(0, 1), and(3, 2)], &[4]).bytes(),
-            5,
-        ),
-        accepted(
-            "XOR of an input with itself",
-            Program::new(1, &[input(0), xor(0, 0)], &[1]).bytes(),
-            2,
-        ),
-        accepted("output ZERO", Program::new(0, &[ZERO], &[0]).bytes(), 1),
+        accepted("NOR as AND of two NOTs", nor().bytes(), 5),
+        accepted("AND of three inputs", and_of_three().bytes(), 5),
+        accepted("AND of four inputs", and_of_four().bytes(), 7),
+        accepted("XOR of an input with itself", xor_with_itself().bytes(), 2),
+        accepted("output ZERO", output_zero().bytes(), 1),
         accepted("the XOR chain", xor_chain().bytes(), 16),
     ]
 }

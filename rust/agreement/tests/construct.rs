@@ -1,24 +1,16 @@
 //! The construction: the model's circuits as files that the archive reads and runs, held to what
 //! the archive's evaluation answers.
 
+use agreement::drawn::{self, read, starts};
 use agreement::lent::lent;
-use agreement::program::{self, and, input, not, xor, Node, Program, ONE, ZERO};
+use agreement::program::Program;
 use agreement::random::Random;
-use agreement::{hex, shaped, shaped_circuit};
+use agreement::{hex, limits, shaped, shaped_circuit};
 use model::circuit::{self, Circuit, Gate};
 use model::construct;
 
-/// The limits of 01.
-const MOST_GATES: usize = 8_000;
-const MOST_WORK_LINES: usize = 1_024;
-const LARGEST_SIZE: usize = 16_384;
-
-/// The circuit file of the case [`four`], as the proved code wrote it.
+/// The circuit file of the case [`shaped::and_of_four`], as the proved code wrote it.
 const WORKED_CASE: &str = concat!(env!("CARGO_MANIFEST_DIR"), "/../../crates/worked_case/stdout");
-
-fn read(program: &Program) -> model::program::Program {
-    model::program::read(&program.bytes()).expect("a program that was drawn is in order")
-}
 
 /// The lines after the archive has run a circuit file on them.
 fn run(file: &[u8], start: &[u8]) -> Vec<u8> {
@@ -34,12 +26,6 @@ fn evaluated(file: &[u8], node_count: usize, inputs: &[u8], outputs: usize) -> V
         .map(|k| oracle::evaluate(file, &mut values, inputs, k))
         .map(|value| u8::from(value.expect("a program that was drawn has values")))
         .collect()
-}
-
-/// AND of the three-input case's AND with a fourth input.
-fn four() -> Program {
-    let nodes = [input(0), input(1), and(0, 1), input(2), and(2, 3), input(3), and(4, 5)];
-    Program::new(4, &nodes, &[6])
 }
 
 /// What the random cases met.
@@ -113,113 +99,6 @@ fn depths(nodes: &[model::program::Node]) -> Vec<usize> {
     depths
 }
 
-/// A random program whose circuit a file can hold.
-fn drawn(random: &mut Random) -> Program {
-    let program = match random.below(8) {
-        0 => chain(random),
-        1 => doubled(random),
-        2 => wide(random),
-        _ => program::valid(random),
-    };
-    fitted(random, program)
-}
-
-/// Each node takes the one before and a leaf: as deep as there are nodes.
-fn chain(random: &mut Random) -> Program {
-    let inputs = random.within(1..=64);
-    let mut nodes: Vec<Node> = (0..inputs).map(|j| input(j as u16)).collect();
-    nodes.extend([ZERO, ONE]);
-    let leaves = nodes.len();
-    let length = random.pick(&[10, 100, 1_000, 4_000]);
-    let and_once_in = random.pick(&[1, 2, 10, 5_000]);
-    for _ in 0..length {
-        let before = nodes.len() as u16 - 1;
-        let leaf = random.below(leaves) as u16;
-        let (a, b) = random.pick(&[(before, leaf), (leaf, before)]);
-        nodes.push(if random.once_in(and_once_in) {
-            and(a, b)
-        } else {
-            random.pick(&[not(before), xor(a, b), xor(a, b)])
-        });
-    }
-    let last = nodes.len() as u16 - 1;
-    let outputs = [last, last / 2, random.within(0..=usize::from(last)) as u16];
-    Program::new(inputs as u16, &nodes, &outputs[..random.within(1..=3)])
-}
-
-/// Each node uses the one before twice, so that its tree is built twice as often.
-fn doubled(random: &mut Random) -> Program {
-    let mut nodes = vec![random.pick(&[input(0), input(1), ONE, ZERO])];
-    for before in 0..random.within(1..=13) as u16 {
-        nodes.push(random.pick(&[and(before, before), and(before, before), xor(before, before)]));
-        if random.once_in(4) {
-            let last = nodes.len() as u16 - 1;
-            nodes[usize::from(last)] = xor(before, random.within(0..=usize::from(before)) as u16);
-        }
-    }
-    let last = nodes.len() as u16 - 1;
-    Program::new(2, &nodes, &[last, last / 2])
-}
-
-/// 64 inputs and 64 outputs, with operands from anywhere.
-fn wide(random: &mut Random) -> Program {
-    let mut nodes: Vec<Node> = (0..64).map(input).collect();
-    for index in 64..random.within(80..=250) {
-        let (a, b) = (random.below(index) as u16, random.below(index) as u16);
-        nodes.push(random.pick(&[not(a), xor(a, b), and(a, b), and(a, b)]));
-    }
-    let outputs: Vec<u16> = (0..64).map(|_| random.below(nodes.len()) as u16).collect();
-    Program::new(64, &nodes, &outputs)
-}
-
-/// The program with lower nodes for the outputs that are too large, and without the last outputs
-/// if there are too many gates in all.
-fn fitted(random: &mut Random, mut program: Program) -> Program {
-    let nodes = read(&program).nodes;
-    let sizes = construct::sizes(&nodes);
-    let fits = |i: usize| {
-        sizes[i] <= LARGEST_SIZE
-            && construct::work_lines(&nodes, i) <= MOST_WORK_LINES
-            && construct::share_gate_count(&nodes, i) <= MOST_GATES
-    };
-    let mut gates_left = MOST_GATES;
-    let mut outputs = Vec::new();
-    for output in &program.outputs {
-        let mut i = usize::from(*output);
-        // Node 0 is a leaf, and fits.
-        while !fits(i) {
-            i = random.within(i / 2..=i - 1);
-        }
-        let gates = construct::share_gate_count(&nodes, i);
-        if gates > gates_left {
-            break;
-        }
-        gates_left -= gates;
-        outputs.push(i as u16);
-    }
-    program.output_count = outputs.len() as u16;
-    program.outputs = outputs;
-    program
-}
-
-/// Lines to start from: every one of them where they are few, otherwise some with the work lines
-/// zero and some not.
-fn starts(random: &mut Random, circuit: &Circuit) -> Vec<Vec<u8>> {
-    let lines = circuit.lines();
-    if lines <= 7 {
-        let start = |state: usize| (0..lines).map(|line| (state >> line & 1) as u8).collect();
-        return (0..1 << lines).map(start).collect();
-    }
-    // Mostly ones, so that not every AND is 0.
-    let mostly_ones = (0..lines).map(|_| u8::from(!random.once_in(8))).collect();
-    let mut starts = vec![random.bits(lines), mostly_ones, vec![1; lines]];
-    for start in &mut starts {
-        start[circuit.inputs + circuit.outputs..].fill(0);
-    }
-    starts.extend([random.bits(lines), vec![1; lines]]);
-    starts
-}
-
 /// Holds the lines after the shares of the first j outputs, for every j, to what 01 says of them.
 fn holds(random: &mut Random, seen: &mut Seen, program: &Program) {
     let file = program.bytes();
@@ -284,38 +163,12 @@ fn at_the_limits() {
         holds(&mut random, &mut seen, &program);
     };
 
-    // Node i has 2^i gates up to node 12, and then there are 8,000 of them.
-    let mut nodes = vec![input(0)];
-    nodes.extend((0..12).map(|before| xor(before, before)));
-    nodes.extend([xor(12, 11), xor(13, 10), xor(14, 9), xor(15, 8), xor(16, 6)]);
-    check("8,000 gates", Program::new(1, &nodes, &[17]), 8_000, 0, 15_999);
-
-    // Two ANDs of 32 inputs each, in turn: 125 gates an output.
-    let mut nodes: Vec<Node> = (0..64).map(input).collect();
-    for half in [0, 32] {
-        nodes.push(and(half, half + 1));
-        for j in half + 2..half + 32 {
-            let before = nodes.len() as u16 - 1;
-            nodes.push(and(before, j));
-        }
-    }
-    let outputs = [94, 125].repeat(32);
-    check("64 outputs", Program::new(64, &nodes, &outputs), 8_000, 62, 63);
-
-    // 512 ANDs, each of the one before and an input.
+    check("8,000 gates", limits::most_gates(), 8_000, 0, 15_999);
+    check("64 outputs", limits::most_outputs(), 8_000, 62, 63);
     for input_first in [false, true] {
-        let mut nodes: Vec<Node> = (0..64).map(input).collect();
-        for before in 63..575 {
-            let j = before % 64;
-            nodes.push(if input_first { and(j, before) } else { and(before, j) });
-        }
-        check("1,024 work lines", Program::new(64, &nodes, &[575]), 2_049, 1_024, 1_025);
+        check("1,024 work lines", limits::ands(512, input_first), 2_049, 1_024, 1_025);
     }
-
-    // As deep as a program can be.
-    let mut nodes = vec![input(0)];
-    nodes.extend((0..4_095).map(not));
-    check("4,095 NOTs", Program::new(1, &nodes, &[4_095]), 4_096, 0, 4_096);
+    check("4,095 NOTs", limits::deepest(), 4_096, 0, 4_096);
 
     let mut chain = shaped::xor_chain();
     chain.outputs = vec![14];
@@ -330,7 +183,7 @@ fn random_programs_run() {
     let mut random = Random::new(0x6275_696c);
     let mut seen = Seen::default();
     for _ in 0..4_000 {
-        let program = drawn(&mut random);
+        let program = drawn::accepted(&mut random);
         holds(&mut random, &mut seen, &program);
     }
     seen.finish("construct, run", 4_000);
@@ -389,7 +242,7 @@ fn gates_of_random_programs() {
     let mut seen = Seen::default();
     let (mut lines_reached, mut gates_reached) = (0, 0);
     for _ in 0..4_000 {
-        let drawn = drawn(&mut random);
+        let drawn = drawn::accepted(&mut random);
         let describe = || format!("program of {}", hex(&drawn.bytes()));
         let program = read(&drawn);
         let nodes = &program.nodes;
@@ -457,12 +310,11 @@ fn the_examples() {
         assert_eq!(written, expected, "{name}");
     };
     check("the whole case", shaped::whole_case(), shaped_circuit::WHOLE_CASE.to_vec());
-    let nor = Program::new(2, &[input(0), input(1), not(0), not(1), and(2, 3)], &[4]);
-    check("NOR", nor, shaped_circuit::nor().bytes());
-    let three = Program::new(3, &[input(0), input(1), input(2), and(0, 1), and(3, 2)], &[4]);
+    check("NOR", shaped::nor(), shaped_circuit::nor().bytes());
+    let three = shaped::and_of_three();
     check("AND of three inputs", three, shaped_circuit::and_of_three().bytes());
 
-    let four = read(&four());
+    let four = read(&shaped::and_of_four());
     let built =
         Circuit { gates: construct::build(&four.nodes, 6, 4, 5), ..construct::circuit(&four) };
     assert_eq!(circuit::write(&built), shaped_circuit::and_of_four_built().bytes());
@@ -472,7 +324,7 @@ fn the_examples() {
 #[test]
 fn the_worked_case() {
     let file = std::fs::read(WORKED_CASE).expect(WORKED_CASE);
-    let written = circuit::write(&construct::circuit(&read(&four())));
+    let written = circuit::write(&construct::circuit(&read(&shaped::and_of_four())));
     for (at, (byte, expected)) in file.iter().zip(&written).enumerate() {
         assert_eq!(byte, expected, "byte {at}, the proved code, then the model");
     }

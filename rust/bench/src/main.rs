@@ -1,5 +1,5 @@
-//! Times the services on circuit files beside the same jobs in idiomatic Rust, in one run:
-//! `cargo run --offline --release -p bench`.
+//! Times the services beside the same jobs in idiomatic Rust, in one run, and finds the stack that
+//! compile takes: `cargo run --offline --release -p bench`.
 
 use std::hint::black_box;
 use std::time::{Duration, Instant};
@@ -7,7 +7,10 @@ use std::time::{Duration, Instant};
 use agreement::circuit::{self, cnot, not, toffoli, Circuit};
 use agreement::random::Random;
 
+mod compiling;
 mod idiomatic;
+mod idiomatic_compile;
+mod stack;
 
 /// Rounds of a measurement, and calls in each: its time is the median of the rounds.
 const ROUNDS: usize = 301;
@@ -63,8 +66,10 @@ struct Call<'a> {
 }
 
 fn main() {
+    stack::try_if_asked();
     let mut random = Random::new(0x6265_6e63);
     sides_agree(&mut random);
+    compiling::sides_agree(&mut random);
 
     let job = full_job(&mut random, 8000);
     println!("Circuit of 8,000 gates on 1,152 lines, a third of the lines chosen for undo.");
@@ -77,11 +82,13 @@ fn main() {
     println!("{:<14} {:>12} {:>12} {:>7}   buffers", "service", "liboracle.a", "Rust", "ratio");
     for (archive, rust) in calls(&ARCHIVE, &job).iter_mut().zip(&mut calls(&RUST, &job)) {
         let (name, buffer) = (archive.name, archive.buffer);
-        let (archive, rust) = side_by_side(&mut archive.call, &mut rust.call);
+        let (archive, rust) = side_by_side(ROUNDS, &mut archive.call, &mut rust.call);
         let ratio = archive.as_secs_f64() / rust.as_secs_f64();
         println!("{name:<14} {} {} {ratio:>7.2}   {buffer}", shown(archive), shown(rust));
     }
     growth(&mut random);
+    compiling::times();
+    stack::print();
 }
 
 /// How the time of liboracle.a grows with the number of gates.
@@ -156,9 +163,13 @@ fn calls<'a>(side: &'a Side, job: &'a Job) -> [Call<'a>; 4] {
 }
 
 /// The times of two calls, measured in turn, so that what else the machine does meets both.
-fn side_by_side(first: &mut dyn FnMut(), second: &mut dyn FnMut()) -> (Duration, Duration) {
+fn side_by_side(
+    rounds: usize,
+    first: &mut dyn FnMut(),
+    second: &mut dyn FnMut(),
+) -> (Duration, Duration) {
     let (mut firsts, mut seconds) = (Vec::new(), Vec::new());
-    for i in 0..ROUNDS {
+    for i in 0..rounds {
         if i % 2 == 0 {
             firsts.push(round(first));
             seconds.push(round(second));

@@ -116,6 +116,11 @@ fn gate(record: &[u8], lines: usize) -> Option<Gate> {
     }
 }
 
+/// The length of the file of so many gates.
+pub(crate) fn file_length(gate_count: usize) -> usize {
+    GATES_START + GATE_LENGTH * gate_count
+}
+
 /// Writes a circuit file.
 pub fn write(circuit: &Circuit) -> Vec<u8> {
     let mut file = Vec::new();

@@ -2,9 +2,11 @@
 //! are held against it. Each check stands in the order of the table of causes.
 
 pub mod circuit;
+pub mod compile;
 pub mod construct;
 mod contents;
 pub mod evaluate;
+pub mod listing;
 pub mod program;
 pub mod run;
 pub mod undo;

@@ -28,6 +28,16 @@ mod c {
             output: u64,
         ) -> Answer;
 
+        pub fn oracle_compile(
+            file: *const u8,
+            file_len: usize,
+            grant: u64,
+            sizes: *mut u16,
+            sizes_len: usize,
+            area: *mut u8,
+            area_len: usize,
+        ) -> Answer;
+
         pub fn oracle_read_circuit(file: *const u8, file_len: usize) -> Answer;
 
         pub fn oracle_run_forwards(
@@ -75,6 +85,21 @@ pub fn evaluate(file: &[u8], values: &mut [u8], inputs: &[u8], output: u64) -> A
             inputs.as_ptr(),
             inputs.len(),
             output,
+        )
+    }
+}
+
+pub fn compile(file: &[u8], grant: u64, sizes: &mut [u16], area: &mut [u8]) -> Answer {
+    // SAFETY: see above.
+    unsafe {
+        c::oracle_compile(
+            file.as_ptr(),
+            file.len(),
+            grant,
+            sizes.as_mut_ptr(),
+            sizes.len(),
+            area.as_mut_ptr(),
+            area.len(),
         )
     }
 }
@@ -142,6 +167,26 @@ mod tests {
             assert_eq!(evaluate(&AND, &mut values, &inputs, 0), answer(0, bit));
         }
         assert_eq!(evaluate(&AND, &mut [7; 2], &[1, 1], 0), answer(7, 0));
+    }
+
+    #[test]
+    fn the_answer_to_a_compilation_is_the_number_of_bytes_written() {
+        let (mut sizes, mut area) = ([7; 4], [7; 70]);
+        assert_eq!(compile(&AND, 2, &mut sizes, &mut area), answer(0, 68));
+        assert_eq!(sizes, [1, 1, 3, 7]);
+        assert_eq!((area[18], area[26]), (40, 2));
+        assert_eq!(area[60..], [2, 0, 0, 0, 0, 0, 3, 0, 7, 7]);
+
+        let (mut sizes, mut area) = ([7; 4], [7; 70]);
+        assert_eq!(compile(&[], 2, &mut sizes, &mut area), answer(1, 0));
+        assert_eq!(compile(&AND, 2, &mut sizes[..2], &mut area), answer(7, 0));
+        assert_eq!(sizes, [7; 4]);
+        assert_eq!(compile(&AND, 1025, &mut sizes, &mut area), answer(9, 0));
+        assert_eq!(compile(&AND, 1, &mut sizes, &mut area), answer(10, 2));
+        assert_eq!((sizes, area), ([1, 1, 3, 7], [7; 70]));
+        assert_eq!(compile(&AND, 2, &mut sizes, &mut area[..67]), answer(11, 5));
+        assert_eq!((&area[..67], &area[67..]), (&[0; 67][..], &[7; 3][..]));
+        assert_eq!(compile(&AND, 2, &mut sizes, &mut []), answer(11, 5));
     }
 
     #[test]

@@ -16,8 +16,8 @@ use archive::Answer;
 pub struct Refusal {
     /// The cause, as numbered in document 01.
     pub number: u64,
-    /// Where the cause lies: the index of the lowest bad node (5), output (6) or gate (12), the
-    /// number of gates needed (11), otherwise 0.
+    /// Where the cause lies: the index of the lowest bad node (5), output (6, 8) or gate (12), the
+    /// number of work lines (10) or of gates needed (11), otherwise 0.
     pub place: u64,
 }
 
@@ -54,6 +54,30 @@ pub fn evaluate(
 ) -> Result<bool, Refusal> {
     let bit = result(archive::evaluate(file, values, inputs, output))?;
     Ok(bit != 0)
+}
+
+/// Compiles a program file to the circuit file that computes its outputs, and gives its length.
+///
+/// - `file` is only read.
+/// - `grant` is the number of work lines that the circuit may take, at most 1,024.
+/// - `sizes` needs an entry for each node. On a result and on refusals 8 to 11, entry i is the
+///   unfolded size of node i, or 16,385 if that is less, and the entries past the last node are as
+///   they were. On refusals 1 to 7 all of it is as it was.
+/// - `area` needs 28 bytes, and 8 for each gate: 64,028 bytes are always enough. On a result the
+///   file is at its start, and the bytes past it are as they were. On refusal 11 all of it is zero,
+///   on any other it is as it was.
+///
+/// Refusals: 1 to 6 of the file; 7, `sizes` is too short; 8, an output's unfolded size is over
+/// 16,384; 9, `grant` is over 1,024; 10, more work lines are needed than granted; 11, more than
+/// 8,000 gates are needed, or `area` is too short.
+pub fn compile(
+    file: &[u8],
+    grant: u64,
+    sizes: &mut [u16],
+    area: &mut [u8],
+) -> Result<usize, Refusal> {
+    let length = result(archive::compile(file, grant, sizes, area))?;
+    Ok(length as usize)
 }
 
 /// Reads and checks a circuit file and gives its number of gates.

@@ -112,11 +112,14 @@ module _ (t : ℕ) where
       let m = c .before .before .before .before .before .before .before .before .before .before .before .pre .1 in
       let v = c .before .before .before .build2 .ensures in (
         omega (arith, k .second .low, c .before .before .before .before .before .before .before .before .before .before .before .pre .0),
-        room-xor-second m k v (c .before .before .before .build2 .kept .1 .1 .1 .1 .0) (omega (arith, m .taken, v .free-to)) (omega (arith, v .stored .count-to)) (omega (arith, v .free-to)),
+        room-xor-second m k v (c .before .before .before .build2 .kept .1 .1 .1 .1 .1 .0) (omega (arith, m .taken, v .free-to)) (omega (arith, v .stored .count-to)) (omega (arith, v .free-to)),
       )
 
   enum-known-node-4 : build-lts.Need-enum-known-node-4 (claims t) (build-at t) build.Post
   enum-known-node-4 c = search needs
+
+  cast-first : build-lts.Need-cast-first (claims t) (build-at t) build.Post
+  cast-first c = omega (arith, line-first (c .before .before .before .before .before .before .pre .1) (as-and (c .before)))
 
   cast-build-4 : build-lts.Need-cast-build-4 (claims t) (build-at t) build.Post
   cast-build-4 c = search needs
@@ -125,26 +128,37 @@ module _ (t : ℕ) where
   take-line-requires c κs = line-first (c .before .before .before .before .before .before .pre .1) (as-and (c .before))
 
   build-requires-4 : build-lts.Need-build-requires-4 (claims t) (build-at t) build.Post
-  build-requires-4 c κs = let k = as-and (c .before .before .before) in (omega (arith, k .first .low, c .before .before .before .before .before .before .before .before .pre .0), room-and-first (c .before .before .before .before .before .before .before .before .pre .1) k (c .before .take-line .ensures))
+  build-requires-4 c κs =
+      let k = as-and (c .before .before .before) in
+      let u = c .before .take-line .ensures in (
+        omega (arith, k .first .low, c .before .before .before .before .before .before .before .before .pre .0),
+        room-and-first (c .before .before .before .before .before .before .before .before .pre .1) k u (omega (arith, u)),
+      )
+
+  cast-second : build-lts.Need-cast-second (claims t) (build-at t) build.Post
+  cast-second c =
+      let u = c .before .before .before .before .before .take-line .ensures in
+      let v = c .before .before .before .build4 .ensures in
+      omega (arith, line-second (c .before .before .before .before .before .before .before .before .before .before .before .before .pre .1) (as-and (c .before .before .before .before .before .before .before)) u v, u, v .free-to)
 
   cast-build-5 : build-lts.Need-cast-build-5 (claims t) (build-at t) build.Post
   cast-build-5 c = search needs
 
   take-line-requires-2 : build-lts.Need-take-line-requires-2 (claims t) (build-at t) build.Post
-  take-line-requires-2 c κs = line-second (c .before .before .before .before .before .before .before .before .before .before .before .pre .1) (as-and (c .before .before .before .before .before .before)) (c .before .before .before .before .take-line .ensures) (c .before .before .build4 .ensures)
+  take-line-requires-2 c κs = line-second (c .before .before .before .before .before .before .before .before .before .before .before .before .pre .1) (as-and (c .before .before .before .before .before .before .before)) (c .before .before .before .before .before .take-line .ensures) (c .before .before .before .build4 .ensures)
 
   build-requires-5 : build-lts.Need-build-requires-5 (claims t) (build-at t) build.Post
   build-requires-5 c κs =
-      let k = as-and (c .before .before .before .before .before .before .before .before) in
-      let u = c .before .before .before .before .before .before .take-line .ensures in
-      let v = c .before .before .before .before .build4 .ensures in
+      let k = as-and (c .before .before .before .before .before .before .before .before .before) in
+      let u = c .before .before .before .before .before .before .before .take-line .ensures in
+      let v = c .before .before .before .before .before .build4 .ensures in
       let u′ = c .before .take-line2 .ensures in (
-        omega (arith, k .second .low, c .before .before .before .before .before .before .before .before .before .before .before .before .before .pre .0),
-        room-and-second (c .before .before .before .before .before .before .before .before .before .before .before .before .before .pre .1) k u v u′ (omega (arith, u .free-to, v .free-to, u′ .free-to)) (c .before .before .before .before .build4 .kept .1 .1 .1 .1 .0),
+        omega (arith, k .second .low, c .before .before .before .before .before .before .before .before .before .before .before .before .before .before .pre .0),
+        room-and-second (c .before .before .before .before .before .before .before .before .before .before .before .before .before .before .pre .1) k u v u′ (omega (arith, u, v .free-to, u′)) (c .before .before .before .before .before .build4 .kept .1 .1 .1 .1 .1 .0),
       )
 
   append-requires-4 : build-lts.Need-append-requires-4 (claims t) (build-at t) build.Post
-  append-requires-4 c κs = room-toffoli (c .before .before .before .before .before .before .before .before .before .before .before .before .before .before .before .before .before .pre .1) (as-and (c .before .before .before .before .before .before .before .before .before .before .before .before)) (c .before .before .before .before .before .before .before .before .before .before .take-line .ensures) (c .before .before .before .before .before .before .before .before .build4 .ensures) (c .before .before .before .before .before .take-line2 .ensures) (c .before .before .before .build5 .ensures) (c .before .before .before .build5 .kept .1 .1 .1 .1 .0 ∙ c .before .before .before .before .before .before .before .before .build4 .kept .1 .1 .1 .1 .0)
+  append-requires-4 c κs = room-toffoli (c .before .before .before .before .before .before .before .before .before .before .before .before .before .before .before .before .before .before .pre .1) (as-and (c .before .before .before .before .before .before .before .before .before .before .before .before .before)) (c .before .before .before .before .before .before .before .before .before .before .before .take-line .ensures) (c .before .before .before .before .before .before .before .before .before .build4 .ensures) (c .before .before .before .before .before .take-line2 .ensures) (c .before .before .before .build5 .ensures) (c .before .before .before .build5 .kept .1 .1 .1 .1 .1 .0 ∙ c .before .before .before .before .before .before .before .before .before .build4 .kept .1 .1 .1 .1 .1 .0)
 
   returns : build-lts.Need-returns (claims t) (build-at t) build.Post
   returns c = rw (as-zero c) (built-zero _ _ _)
@@ -177,7 +191,7 @@ module _ (t : ℕ) where
   same-length-5 c = search needs
 
   returns-6 : build-lts.Need-returns-6 (claims t) (build-at t) build.Post
-  returns-6 c = rw (as-and (c .before .before .before .before .before .before .before .before .before .before .before .before .before .before .before) .is) (built-and (c .before .before .before .before .before .before .before .before .before .before .before .before .before .take-line .ensures) (c .before .before .before .before .before .before .before .before .before .before .before .build4 .ensures) (c .before .before .before .before .before .before .before .before .take-line2 .ensures) (c .before .before .before .before .before .before .build5 .ensures) (c .before .before .append4 .ensures))
+  returns-6 c = rw (as-and (c .before .before .before .before .before .before .before .before .before .before .before .before .before .before .before .before) .is) (built-and (c .before .before .before .before .before .before .before .before .before .before .before .before .before .before .take-line .ensures) (c .before .before .before .before .before .before .before .before .before .before .before .before .build4 .ensures) (c .before .before .before .before .before .before .before .before .take-line2 .ensures) (c .before .before .before .before .before .before .build5 .ensures) (c .before .before .append4 .ensures))
 
 pub +build-spec : {M : Type 1} → statement M
 +build-spec =
@@ -203,9 +217,11 @@ pub +build-spec : {M : Type 1} → statement M
     (cast-build-3 t)
     (build-requires-3 t)
     (enum-known-node-4 t)
+    (cast-first t)
     (cast-build-4 t)
     (take-line-requires t)
     (build-requires-4 t)
+    (cast-second t)
     (cast-build-5 t)
     (take-line-requires-2 t)
     (build-requires-5 t)

@@ -15,9 +15,6 @@ abbrev μ-loop : tie.MeasureT-loop
 add-free : tie.Need-add-free Inv-loop μ-loop
 add-free c = omega (arith, c .before .before .before .pre .lines)
 
-cast-free : tie.Need-cast-free Inv-loop μ-loop
-cast-free c = omega (arith, c .before .before .before .pre .lines)
-
 loop-holds : tie.Need-loop-holds Inv-loop μ-loop
 loop-holds c = writing-start _ _ _ _
 
@@ -55,7 +52,6 @@ write-shares-spec =
     Inv-loop
     μ-loop
     add-free
-    cast-free
     loop-holds
     add-target
     cast-target

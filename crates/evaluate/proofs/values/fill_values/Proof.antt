@@ -5,32 +5,34 @@ use native.Mathlib.Omega.{arith}
 use lib.ListN.{length, take}
 use lib.Seq.{length-take-le}
 use denote.Ref.{now}
+use Rattle.wire.proofs.FillLaws.{Filled, filled-start}
 use Rattle.program.specs.declared.node.Node.{Node}
-use Rattle.program.specs.Programs.{nodeValue}
-use Rattle.evaluate.proofs.FillLaws.{Filled, filled-start, filled-valued, filled-next, filled-all}
+use Rattle.program.specs.Nodes.{nodesIn}
+use Rattle.program.specs.Programs.{nodeValue, nodeValues}
+use Rattle.evaluate.proofs.FillLaws.{filled-valued, value-stored, values-stored}
 use Rattle.evaluate.proofs.values.fill_values.Statement.{statement}
 use Rattle.evaluate.proofs.values.fill_values.Tie as tie
 
 abbrev Inv-loop : tie.InvT-loop
-Inv-loop nodes inputs values₀ i₀ values i = Filled nodes inputs values₀ values i
+Inv-loop nodes inputs values₀ i₀ values i = Filled (nodeValues (nodesIn nodes) inputs) values₀ values i
 
 abbrev μ-loop : tie.MeasureT-loop
 μ-loop nodes inputs values₀ i₀ values i = length nodes / 6 - i
 
 loop-holds : tie.Need-loop-holds Inv-loop μ-loop
-loop-holds c = filled-start _ _ _
+loop-holds c = filled-start
 
 node-at-requires : tie.Need-node-at-requires Inv-loop μ-loop
 node-at-requires c κs = search needs
 
 slice-reshare-prefix-node-value : tie.Need-slice-reshare-prefix-node-value Inv-loop μ-loop
-slice-reshare-prefix-node-value c = omega (arith, c .before .before .loop .inv .within, c .before .before .loop .inv .same, c .before .before .before .before .before .before .pre .fits)
+slice-reshare-prefix-node-value c = omega (arith, c .before .loop-test .taken, c .before .before .loop .inv .same, c .before .before .before .before .before .before .pre .fits)
 
 slice-aggregate-node-value : tie.Need-slice-aggregate-node-value Inv-loop μ-loop
-slice-aggregate-node-value c = sym (length-take-le _ _ (omega (arith, c .before .before .before .loop .inv .within, c .before .before .before .loop .inv .same, c .before .before .before .before .before .before .before .pre .fits)))
+slice-aggregate-node-value c = sym (length-take-le _ _ (omega (arith, c .before .before .loop-test .taken, c .before .before .before .loop .inv .same, c .before .before .before .before .before .before .before .pre .fits)))
 
 node-value-requires : tie.Need-node-value-requires Inv-loop μ-loop
-node-value-requires c κs = rw (c .before .node-at .ensures) (filled-valued _ _ _ (c .before .before .before .loop .inv) (c .before .before .before .before .before .before .before .pre) (c .before .before .loop-test .taken))
+node-value-requires c κs = rw (c .before .node-at .ensures) (filled-valued _ _ (c .before .before .before .loop .inv) (c .before .before .before .before .before .before .before .pre) (c .before .before .loop-test .taken))
 
 slice-write-values : tie.Need-slice-write-values Inv-loop μ-loop
 slice-write-values c = omega (arith, c .before .before .before .loop-test .taken, c .before .before .before .before .loop .inv .same, c .before .before .before .before .before .before .before .before .pre .fits)
@@ -46,13 +48,13 @@ loop-again c =
     let a = c .before .before .before .before .before .before .before .before .args in
     let at = c .before .before .before .before .loop in
     let value = c .node-value .ensures ∙ ap (λ (o : Node). nodeValue o (take (at .i) (at .values)) (a .inputs .now)) (c .before .before .node-at .ensures) in
-    filled-next _ _ _ (at .inv) (c .before .before .before .before .before .before .before .before .pre) (c .before .before .before .loop-test .taken) value
+    value-stored _ _ (at .inv) (c .before .before .before .before .before .before .before .before .pre) (c .before .before .before .loop-test .taken) value
 
 same-length : tie.Need-same-length Inv-loop μ-loop
 same-length c = c .before .loop .inv .same
 
 returns : tie.Need-returns Inv-loop μ-loop
-returns c = filled-all _ _ _ (c .before .loop .inv) (c .loop-test .left)
+returns c = values-stored _ _ (c .before .loop .inv) (c .loop-test .left)
 
 pub fill-values-spec : {M : Type 1} → statement M
 fill-values-spec =

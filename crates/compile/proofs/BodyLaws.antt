@@ -1,0 +1,101 @@
+-- Laws of the bodies of an accepted program file: their trees are the program's, and so are the counts. Assumes nothing.
+use Prim.Native.Nat.{ℕ, _/_, _<_, _≤_}
+use native.Mathlib.Omega.{arith}
+use mathlib.Core.Path.{_≡_, sym, ap, ap₂, _∙_}
+use mathlib.Core.List.{List}
+use lib.ListN.{length, getD}
+use Rattle.wire.specs.Contents.{bodyOf}
+use Rattle.wire.specs.Lists.{tabulate}
+use Rattle.wire.proofs.ListLaws.{tabulate-same}
+use Rattle.circuit.specs.declared.reader.CircuitHead.{CircuitHead}
+use Rattle.circuit.specs.Circuits.{gateCount}
+use Rattle.circuit.specs.Format.{fileLength, Small}
+use Rattle.program.specs.declared.node.Node.{Node}
+use Rattle.program.specs.Exprs.{Expr, ZERO, size}
+use Rattle.program.specs.Nodes.{nodesIn}
+use Rattle.program.specs.Programs.{outputTree}
+use Rattle.program.specs.Reading.{inputsOf, outputAt, programOf}
+use Rattle.program.specs.Trees.{trees, TableOk}
+use Rattle.program.proofs.AcceptedLaws.{Accepted, same-nodes, outputs-length, output-is, inputs-is, table-ok}
+use Rattle.program.proofs.ReadingLaws.{nodes-counted, outputs-counted}
+use Rattle.construct.specs.declared.counter.Needs.{Needs}
+use Rattle.construct.specs.Construction.{circuit, linesNeeded}
+use Rattle.construct.specs.Counting.{sharesCount, gatesShown, AllCountable, Needed}
+use Rattle.construct.specs.Tables.{treeIn, treesIn}
+use Rattle.construct.specs.Writing.{Writable}
+use Rattle.construct.proofs.CountLaws.{circuit-length}
+use Rattle.compile.specs.Compiling.{outputTrees, programCircuit}
+use Rattle.compile.specs.Steps.{Fitting}
+
+module _ (f : List ℕ) (a : Accepted f) where
+  pub outputs-count : length (bodyOf f 2) / 2 ≡ length (programOf f .outputs)
+  outputs-count = outputs-counted f (a .sized) ∙ sym (outputs-length f a)
+
+  -- every output names one of the nodes
+  pub names-node : (k : ℕ) → k < length (bodyOf f 2) / 2 → outputAt (bodyOf f 2) k < length (bodyOf f 1) / 6
+  names-node k h = omega (arith, a .outputs-fit k (omega (arith, outputs-counted f (a .sized))), nodes-counted f (a .sized))
+
+  pub nodes-ordered : TableOk (inputsOf f) (nodesIn (bodyOf f 1))
+  nodes-ordered = rw (same-nodes f a) (table-ok f a)
+
+  -- the node that an output names has the output's tree
+  pub named-tree : (k : ℕ) → k < length (bodyOf f 2) / 2 → getD (trees (nodesIn (bodyOf f 1))) (outputAt (bodyOf f 2) k) ZERO ≡ outputTree (programOf f) k
+  unfolding outputTree
+  named-tree k h =
+      ap₂ (λ (ns : List Node) (i : ℕ). getD (trees ns) i ZERO) (same-nodes f a) (sym (output-is f a k (omega (arith, outputs-counted f (a .sized)))))
+
+  pub tree-same : (k : ℕ) → k < length (bodyOf f 2) / 2 → treeIn (bodyOf f 1) (outputAt (bodyOf f 2) k) ≡ outputTree (programOf f) k
+  unfolding treeIn
+  tree-same k h = named-tree k h
+
+  pub trees-same : treesIn (bodyOf f 1) (bodyOf f 2) ≡ outputTrees (programOf f)
+  unfolding treesIn outputTrees
+  trees-same =
+      tabulate-same (λ k. treeIn (bodyOf f 1) (outputAt (bodyOf f 2) k)) (outputTree (programOf f)) (length (bodyOf f 2) / 2) tree-same
+      ∙ ap (tabulate (outputTree (programOf f))) outputs-count
+
+  -- where no output is too large the shares can be counted
+  pub countable : ((k : ℕ) → k < length (programOf f .outputs) → size (outputTree (programOf f) k) ≤ 16384) → AllCountable (bodyOf f 1) (bodyOf f 2)
+  countable small =
+      record {
+        each = λ k h.
+            record {
+              valid = record { inputs = inputsOf f; ordered = nodes-ordered; inside = names-node k h };
+              small = rw (tree-same k h) (small k (omega (arith, outputs-count)));
+            };
+        outputs-most = omega (arith, outputs-counted f (a .sized), a .outputs-most);
+      }
+
+  -- what was counted is the circuit's
+  module _ {r : Needs} (n : Needed (treesIn (bodyOf f 1) (bodyOf f 2)) r) where
+    pub lines-counted : r .lines ≡ programCircuit (programOf f) .work
+    unfolding programCircuit
+    lines-counted = n .lines-are ∙ ap linesNeeded trees-same
+
+    pub gates-counted : r .gates ≡ gatesShown (gateCount (programCircuit (programOf f)))
+    unfolding programCircuit
+    gates-counted =
+        n .gates-are
+        ∙ ap (λ (es : List Expr). gatesShown (sharesCount es)) trees-same
+        ∙ ap gatesShown (sym (circuit-length (programOf f .inputs) (outputTrees (programOf f))))
+
+  -- a head whose numbers are in range fits, with the program's gates, into an area that is long enough
+  pub fitting : (h : CircuitHead) (area : List ℕ) → h .inputs ≡ inputsOf f → h .outputs ≤ 64 → h .work ≤ 1024 → h .gates ≤ 8000
+      → programCircuit (programOf f) .work ≤ 1024 → fileLength (gateCount (programCircuit (programOf f))) ≤ length area → Fitting (bodyOf f 1) (bodyOf f 2) h area
+  unfolding programCircuit
+  fitting h area n m w g lines room =
+      let length-is : length (circuit (programOf f .inputs) (outputTrees (programOf f))) ≡ sharesCount (outputTrees (programOf f)) = circuit-length (programOf f .inputs) (outputTrees (programOf f)) in
+      record {
+        small = record { inputs-small = omega (arith, a .inputs-most); outputs-small = m; work-small = w; gates-small = g };
+        writable =
+            record {
+              ordered = rw n nodes-ordered;
+              named = names-node;
+              lines = omega (arith, n, a .inputs-most, a .outputs-most, outputs-counted f (a .sized), ap linesNeeded trees-same);
+              room = omega (arith, ap sharesCount trees-same, length-is);
+            };
+      }
+
+-- an area of the same length can be written as well
+pub writable-same : {nodes outputs area after : List ℕ} {n : ℕ} → Writable nodes outputs n area → length after ≡ length area → Writable nodes outputs n after
+writable-same w e = record { ordered = w .ordered; named = w .named; lines = w .lines; room = omega (arith, w .room) }

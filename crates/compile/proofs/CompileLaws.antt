@@ -1,0 +1,110 @@
+-- Laws of compiling a file: the answer, the size list and the area at exit, case by case. Assumes nothing.
+use Prim.Native.Nat.{ℕ, _/_, _<_, _≤_}
+use native.Mathlib.Omega.{arith}
+use mathlib.Core.Path.{_≡_, refl, sym, ap, ap₂, _∙_}
+use mathlib.Core.Logic.{_≢_}
+use mathlib.Core.Bool.{false}
+use mathlib.Core.List.{List, _++_}
+use lib.ListN.{length, drop}
+use lib.Dec.{eqb}
+use borrow.Author.Tests.{le-leb, lt-leb, ne-eqb}
+use Rattle.wire.specs.Answers.{Answer, result, refused, refuse, check, andThen, mapAnswer}
+use Rattle.wire.specs.Checks.{allBelow, lowest}
+use Rattle.wire.specs.Contents.{tableFits, entriesFit, bodyOf}
+use Rattle.wire.specs.declared.refusals.Refusal.the-variants as cause
+use Rattle.wire.proofs.AnswerLaws.{Never, never-result, never-check}
+use Rattle.circuit.specs.declared.reader.CircuitHead.{CircuitHead}
+use Rattle.circuit.specs.Circuits.{Circuit, headOf}
+use Rattle.circuit.specs.Format.{areaAfter}
+use Rattle.program.specs.declared.node.Node.{Node}
+use Rattle.program.specs.declared.reader.Head.{Head}
+use Rattle.program.specs.Nodes.{nodeFits, nodesIn}
+use Rattle.program.specs.Programs.{Program}
+use Rattle.program.specs.Reading.{tags, inputsOf, outputsOf, nodesOf, lengthsFit, rangesFit, outputFits, programOf, readBodies, readProgram}
+use Rattle.program.proofs.AcceptedLaws.{Read, nodes-length, same-nodes}
+use Rattle.program.proofs.ReadingLaws.{nodes-counted}
+use Rattle.sizing.specs.Sizing.{nodeSizes, Sizeable}
+use Rattle.compile.specs.Steps.{Listed}
+use Rattle.compile.proofs.BodyLaws.{nodes-ordered}
+use Rattle.compile.specs.Compiling.{compileProgram, readWithSizes, compileFile, sizesAfter, compileOf}
+
+-- reading a program never finds that there is no room
+reader-room : (f : List ℕ) → Never 11 (readProgram f)
+unfolding readProgram readBodies
+reader-room f =
+    let read : Answer Program = result (programOf f) in
+    let outputs : Answer Program = check (allBelow (outputFits (nodesOf f) (bodyOf f 2)) (outputsOf f)) (cause.Output (lowest (outputFits (nodesOf f) (bodyOf f 2)) (outputsOf f))) read in
+    let ranges : Answer Program = check (rangesFit f) cause.Range (readBodies f) in
+    let lengths : Answer Program = check (lengthsFit f) cause.BodyLength ranges in
+    let entries : Answer Program = check (entriesFit tags f) cause.Contents lengths in
+    never-check 11 (tableFits 3 f) cause.Table entries (omega arith)
+    (never-check 11 (entriesFit tags f) cause.Contents lengths (omega arith)
+    (never-check 11 (lengthsFit f) cause.BodyLength ranges (omega arith)
+    (never-check 11 (rangesFit f) cause.Range (readBodies f) (omega arith)
+    (never-check 11 (allBelow (nodeFits (inputsOf f) (bodyOf f 1)) (nodesOf f)) (cause.Node (lowest (nodeFits (inputsOf f) (bodyOf f 1)) (nodesOf f))) outputs (omega arith)
+    (never-check 11 (allBelow (outputFits (nodesOf f) (bodyOf f 2)) (outputsOf f)) (cause.Output (lowest (outputFits (nodesOf f) (bodyOf f 2)) (outputsOf f))) read (omega arith)
+    (never-result 11 (programOf f)))))))
+
+module _ (f : List ℕ) (grant : ℕ) (sizes area : List ℕ) where
+  -- the answer a, the size list l and the area at exit are those of the service's definition
+  pub record Outcome (a : Answer CircuitHead) (l after : List ℕ) : Type 0 where
+    pub answer : a ≡ compileOf f grant sizes area .answer
+    pub sizes-are : l ≡ compileOf f grant sizes area .sizes
+    pub area-is : after ≡ compileOf f grant sizes area .area
+
+  -- what the program read leads to
+  abbrev led : Answer Program → Answer Circuit
+  led x = andThen x (λ p. compileProgram p grant (length area))
+
+  outcome : (x : Answer Program) → readWithSizes f (length sizes) ≡ x → Outcome (mapAnswer headOf (led x)) (sizesAfter x sizes) (areaAfter (led x) area)
+  unfolding compileOf compileFile
+  outcome x e = record { answer = rw e refl; sizes-are = rw e refl; area-is = rw e refl }
+
+  -- a refusal before the sizes leaves both lists as they were
+  unread : (n p : ℕ) → readWithSizes f (length sizes) ≡ refused n p → n ≢ 11 → Outcome (refused n p) sizes area
+  unread n p e h =
+      let other : eqb n 11 ≡ false = ne-eqb n 11 h in
+      let o = outcome (refused n p) e in
+      record { answer = o .answer; sizes-are = o .sizes-are; area-is = sym (rw other refl) ∙ o .area-is }
+
+  -- the reader's refusal is passed on
+  pub reader-refuses : (n p : ℕ) → readProgram f ≡ refused n p → Outcome (refused n p) sizes area
+  unfolding readWithSizes
+  reader-refuses n p e = unread n p (rw e refl) (reader-room f n p e)
+
+  module _ {h : Head} (r : Read f h) where
+    head-nodes : h .nodes ≡ length (programOf f .nodes)
+    head-nodes = ap (λ (t : Head). t .nodes) (r .head)
+
+    pub list-short : length sizes < h .nodes → Outcome (refuse cause.ListLength) sizes area
+    unfolding readWithSizes
+    list-short s =
+        unread 7 0 (rw (r .accepts .is, lt-leb (length (programOf f .nodes)) (length sizes) (omega (arith, head-nodes))) refl) (omega arith)
+
+    -- the list is long enough: it holds the nodes' sizes, and the rest is as compiling the program says
+    pub sized : h .nodes ≤ length sizes
+        → Outcome
+        (mapAnswer headOf (compileProgram (programOf f) grant (length area)))
+        (nodeSizes (programOf f .nodes) ++ drop (length (programOf f .nodes)) sizes)
+        (areaAfter (compileProgram (programOf f) grant (length area)) area)
+    unfolding readWithSizes
+    sized s =
+        outcome (result (programOf f)) (rw (r .accepts .is, le-leb (length (programOf f .nodes)) (length sizes) (omega (arith, head-nodes))) refl)
+
+    -- these sizes are those of the node body
+    pub sizes-stored : nodeSizes (nodesIn (bodyOf f 1)) ++ drop (length (bodyOf f 1) / 6) sizes ≡ nodeSizes (programOf f .nodes) ++ drop (length (programOf f .nodes)) sizes
+    sizes-stored =
+        ap₂ (λ (ns : List Node) (n : ℕ). nodeSizes ns ++ drop n sizes) (same-nodes f (r .accepts)) (nodes-counted f (r .accepts .sized) ∙ sym (nodes-length f (r .accepts)))
+
+-- the nodes of a program that was read have sizes, and the list then holds them
+module _ {f : List ℕ} {h : Head} (r : Read f h) where
+  pub sizeable : {entries : ℕ} → h .nodes ≤ entries → Sizeable (bodyOf f 1) entries
+  sizeable s =
+      record {
+        inputs = inputsOf f;
+        ordered = nodes-ordered f (r .accepts);
+        fits = omega (arith, nodes-counted f (r .accepts .sized), nodes-length f (r .accepts), ap (λ (t : Head). t .nodes) (r .head));
+      }
+
+  pub listed : (old : List ℕ) {new : List ℕ} → new ≡ nodeSizes (nodesIn (bodyOf f 1)) ++ drop (length (bodyOf f 1) / 6) old → Listed f h new
+  listed old e = record { reads = r .accepts .is; numbers = r .head; later = drop (length (bodyOf f 1) / 6) old; listed = e ∙ ap (λ (ns : List Node). nodeSizes ns ++ drop (length (bodyOf f 1) / 6) old) (same-nodes f (r .accepts)) }

@@ -1,0 +1,26 @@
+use Prim.Native.Nat.{ℕ}
+use native.Mathlib.Omega.{arith}
+use mathlib.Core.Path.{ap, _∙_}
+use mathlib.Core.List.{List}
+use borrow.Author.Needs.{needs}
+use Rattle.circuit.specs.Format.{putGates}
+use Rattle.construct.specs.Construction.{circuit}
+use Rattle.construct.specs.Tables.{treesIn}
+use Rattle.compile.proofs.BodyLaws.{writable-same}
+use Rattle.compile.proofs.write_circuit.Statement.{statement}
+use Rattle.compile.proofs.write_circuit.Tie as tie
+
+write-head-requires : tie.Need-write-head-requires
+write-head-requires c κs = let p = c .before .before .before .before .pre in (p .small, omega (arith, p .writable .room))
+
+write-shares-requires : tie.Need-write-shares-requires
+write-shares-requires c κs = writable-same (c .before .before .before .before .before .before .before .before .pre .writable) (c .before .before .before .write-head .kept .0)
+
+same-length : tie.Need-same-length
+same-length c = search needs
+
+returns : tie.Need-returns
+returns c = c .before .before .write-shares .ensures .area-to ∙ ap (λ (l : List ℕ). putGates l 0 (circuit (c .before .before .before .before .before .before .before .before .before .before .before .args .head .inputs) (treesIn (c .before .before .before .before .before .before .before .before .before .before .before .args .nodes .now) (c .before .before .before .before .before .before .before .before .before .before .before .args .outputs .now)))) (c .before .before .before .before .before .before .write-head .ensures)
+
+pub write-circuit-spec : {M : Type 1} → statement M
+write-circuit-spec = tie.close (tie.spec write-head-requires write-shares-requires same-length returns)

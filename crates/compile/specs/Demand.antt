@@ -1,0 +1,57 @@
+-- Demand 3 (01): one claim about every run of a compiled file, over the services' own definitions.
+use Prim.Native.Nat.{ℕ, _+_, _≤_, _<_}
+use mathlib.Core.Path.{_≡_}
+use mathlib.Core.List.{List}
+use lib.ListN.{length, take}
+use Rattle.wire.specs.Answers.{result}
+use Rattle.gate.specs.declared.gates.Gate.{Gate}
+use Rattle.gate.specs.Running.{run}
+use Rattle.circuit.specs.declared.reader.CircuitHead.{CircuitHead}
+use Rattle.circuit.specs.Circuits.{Circuit, lineCount, headOf}
+use Rattle.circuit.specs.Format.{fileLength}
+use Rattle.circuit.specs.Reading.{readCircuit}
+use Rattle.circuit.specs.RunCircuit.{runForwards}
+use Rattle.program.specs.Programs.{Program, outputValue}
+use Rattle.program.specs.Reading.{readProgram}
+use Rattle.evaluate.specs.Evaluating.{evaluateOf}
+use Rattle.construct.specs.Theorems.{Start, firstShares, shareOf, After}
+use Rattle.compile.specs.Compiling.{outputTrees, programCircuit, compileOf}
+
+-- the file written: the first bytes of the area at exit, as many as the answer's gates need
+abbrev pub fileWritten : CircuitHead → List ℕ → List ℕ
+fileWritten h area = take (fileLength (h .gates)) area
+
+-- the gates of the shares of the first j outputs
+abbrev pub firstOutputs : Program → ℕ → List Gate
+firstOutputs p j = firstShares (p .inputs) (outputTrees p) j
+
+-- the run of a file written for program p from one start, where reading the file back gave circuit c; every j is in it
+pub record Run (file : List ℕ) (p : Program) (written : List ℕ) (c : Circuit) (start : List ℕ) : Type 0 where
+  -- running forwards gives its result, these lines, and no refusal
+  pub lines : List ℕ
+  pub runs : runForwards written start ≡ result lines
+  -- the gates of the first j shares open the gates read back
+  pub opens : (j : ℕ) → j ≤ c .outputs → take (length (firstOutputs p j)) (c .gates) ≡ firstOutputs p j
+  -- after them every input line and work line is as it started, and the targets hold what 01 says
+  pub holds : (j : ℕ) → j ≤ c .outputs → After (c .inputs) (c .outputs) (c .work) (outputValue p (take (c .inputs) start)) j start (run (firstOutputs p j) start)
+  -- each share finds the lines as the one before left them
+  pub follows : (j : ℕ) → j < c .outputs → run (firstOutputs p (j + 1)) start ≡ run (shareOf (p .inputs) (outputTrees p) j) (run (firstOutputs p j) start)
+  -- at j = m these are all the gates, and the lines are those that running forwards gave
+  pub all : firstOutputs p (c .outputs) ≡ c .gates
+  pub ends : run (firstOutputs p (c .outputs)) start ≡ lines
+  -- the value of output k is what the service evaluate answers on the input lines, with any value list long enough
+  pub evaluates : (k : ℕ) → k < c .outputs → (values : List ℕ) → length (p .nodes) ≤ length values → evaluateOf file values (take (c .inputs) start) k .answer ≡ result (outputValue p (take (c .inputs) start) k)
+
+-- what holds of an accepted program file, the numbers answered and the file written
+pub record Kept (file : List ℕ) (h : CircuitHead) (written : List ℕ) : Type 0 where
+  pub program : Program
+  pub read : readProgram file ≡ result program
+  pub numbers : h ≡ headOf (programCircuit program)
+  -- the file written reads back as exactly the program's circuit
+  pub back : readCircuit written ≡ result (programCircuit program)
+  -- and every start of its lines is run as above
+  pub every : (c : Circuit) → readCircuit written ≡ result c → (start : List ℕ) → Start (lineCount c) start → Run file program written c start
+
+-- demand 3: it holds of every file that compiling accepts, whatever the grant and the lent areas held
+pub record Demand3 (file : List ℕ) (grant : ℕ) (sizes area : List ℕ) : Type 0 where
+  pub kept : (h : CircuitHead) → compileOf file grant sizes area .answer ≡ result h → Kept file h (fileWritten h (compileOf file grant sizes area .area))

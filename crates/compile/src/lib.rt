@@ -1,0 +1,121 @@
+// The service compile: a program file's circuit, written into a lent area.
+pub mod end_to_end;
+
+use circuit::layout::FIRST_GATE;
+use circuit::reader::CircuitHead;
+use circuit::writer::clear;
+use circuit::writer::write_head;
+use construct::counter::count_shares;
+use construct::sharer::write_shares;
+use program::reader::Head;
+use program::reader::ProgramRead;
+use program::reader::node_body;
+use program::reader::output_body;
+use program::reader::read_program;
+use sizing::fill_sizes;
+use sizing::first_too_large;
+use wire::refusals::Refusal;
+ghost use mathlib.Core.Path.{_≡_};
+ghost use mathlib.Core.Bool.{_&&_};
+ghost use lib.ListN.{length};
+ghost use lib.Dec.{leb};
+ghost use lib.Seq.{sets};
+ghost use Rattle.wire.specs.Answers.{mapAnswer};
+ghost use Rattle.circuit.specs.Circuits.{headOf};
+ghost use Rattle.circuit.specs.Format.{fileLength, openingBytes, putGates, areaAfter};
+ghost use Rattle.program.specs.Reading.{programOf};
+ghost use Rattle.construct.specs.Construction.{circuit as gatesOf};
+ghost use Rattle.construct.specs.Tables.{treesIn};
+ghost use Rattle.compile.specs.Compiling.{compileProgram, compileOf, compiled};
+ghost use Rattle.compile.specs.Demand.{Demand3};
+ghost use Rattle.compile.specs.Steps.{Listed, Fitting};
+
+// What compiling answers: the numbers of the circuit written.
+pub enum Compiled {
+    Written(CircuitHead),
+    Refused(Refusal),
+}
+
+// The reader's refusal, passed on.
+fn refused(answer: ProgramRead) -> Compiled
+    ensures { λ r. ⌜ ((why : Refusal) → answer ≡ ProgramRead.Refused why → r ≡ Compiled.Refused why) ⌝ }
+{
+    match answer {
+        ProgramRead::Refused(why) => Compiled::Refused(why),
+        ProgramRead::Good(_) => Compiled::Refused(Refusal::Table),
+    }
+}
+
+// Whether a file may have so many gates, and an area of so many bytes has room for it.
+fn has_room(gates: usize, room: usize) -> bool
+    ensures { λ r. ⌜ r ≡ leb gates 8000 && leb (fileLength gates) room ⌝ }
+{
+    if 8000 < gates {
+        return false;
+    }
+    FIRST_GATE + 8 * gates <= room
+}
+
+// Stores the head and the shares of all outputs.
+fn write_circuit(nodes: &[u8], outputs: &[u8], head: CircuitHead, area: &mut [u8])
+    requires { ⌜ Fitting (now nodes) (now outputs) head (now area) ⌝ }
+    ensures { λ _. ⌜ now (area .exit) ≡ putGates (sets (now (area .entry)) 0 (openingBytes head)) 0 (gatesOf (head .inputs) (treesIn (now (nodes .entry)) (now (outputs .entry)))) ⌝ }
+{
+    write_head(area, head);
+    write_shares(nodes, outputs, head.inputs, area);
+}
+
+// Compiles a program whose sizes are listed: causes 8 to 11, and everything is counted before
+// anything is written.
+fn compile_sized(file: &[u8], head: Head, grant: u64, sizes: &[u16], area: &mut [u8]) -> Compiled
+    requires { ⌜ Listed (now file) head (now sizes) ⌝ }
+    ensures { λ r. ⌜ compiled r ≡ mapAnswer headOf (compileProgram (programOf (now (file .entry))) grant (length (now (area .entry)))) ⌝ }
+    ensures { λ _. ⌜ now (area .exit) ≡ areaAfter (compileProgram (programOf (now (file .entry))) grant (length (now (area .entry)))) (now (area .entry)) ⌝ }
+{
+    let nodes = node_body(file);
+    let outputs = output_body(file);
+    let output = first_too_large(outputs, sizes);
+    if output != head.outputs {
+        return Compiled::Refused(Refusal::Size(output as u64));
+    }
+    if 1024 < grant {
+        return Compiled::Refused(Refusal::Grant);
+    }
+    let needs = count_shares(nodes, outputs);
+    if grant < needs.lines as u64 {
+        return Compiled::Refused(Refusal::WorkLines(needs.lines as u64));
+    }
+    if !has_room(needs.gates, area.len()) {
+        clear(area);
+        return Compiled::Refused(Refusal::Room(needs.gates as u64));
+    }
+    let written = CircuitHead {
+        inputs: head.inputs,
+        outputs: head.outputs,
+        work: needs.lines,
+        gates: needs.gates,
+    };
+    write_circuit(nodes, outputs, written, area);
+    Compiled::Written(written)
+}
+
+// Compiles a program file with a grant of work lines. The size list is filled with the nodes'
+// unfolded sizes as soon as it is long enough. On a result the circuit file is at the start of the
+// area, and the area behind it is as it was; where there is no room for the file the whole area is
+// zero, and on every other refusal it is as it was.
+pub fn compile(file: &[u8], grant: u64, sizes: &mut [u16], area: &mut [u8]) -> Compiled
+    ensures { λ r. ⌜ compiled r ≡ compileOf (now (file .entry)) grant (now (sizes .entry)) (now (area .entry)) .answer ⌝ }
+    ensures { λ _. ⌜ now (sizes .exit) ≡ compileOf (now (file .entry)) grant (now (sizes .entry)) (now (area .entry)) .sizes ⌝ }
+    ensures { λ _. ⌜ now (area .exit) ≡ compileOf (now (file .entry)) grant (now (sizes .entry)) (now (area .entry)) .area ⌝ }
+    ensures { λ _. ⌜ Demand3 (now (file .entry)) grant (now (sizes .entry)) (now (area .entry)) ⌝ }
+{
+    let answer = read_program(file);
+    let ProgramRead::Good(head) = answer else {
+        return refused(answer);
+    };
+    if sizes.len() < head.nodes {
+        return Compiled::Refused(Refusal::ListLength);
+    }
+    fill_sizes(node_body(file), sizes);
+    compile_sized(file, head, grant, sizes, area)
+}

@@ -1,0 +1,51 @@
+// Lists the circuit of each program file of data/, in the order of main.
+
+// Lists one program file.
+fn list_file(path: &[u8]) {
+    let fd = os::open_read(path);
+    if fd < 0 {
+        os::fail(path);
+        return;
+    }
+    let mut input = [0u8; 32768];
+    let n = io::read_full(fd, &mut input);
+    libc::close(fd);
+    let mut out = [0u8; text::LISTING_LENGTH];
+    let length = text::list(&input[..n], 1024, &mut out);
+    io::write_all(1, &out[..length]);
+}
+
+fn main() {
+    list_file(b"empty");
+    list_file(b"table_cut_short");
+    list_file(b"wrong_tag");
+    list_file(b"last_byte_missing");
+    list_file(b"no_nodes");
+    list_file(b"inputs_65");
+    list_file(b"bad_node");
+    list_file(b"bad_output");
+    list_file(b"whole_case");
+    list_file(b"nor");
+    list_file(b"and_of_three");
+    list_file(b"and_of_four");
+    list_file(b"xor_with_itself");
+    list_file(b"zero");
+    list_file(b"one");
+    list_file(b"three_outputs");
+    list_file(b"size_16383");
+    list_file(b"size_16384");
+    list_file(b"size_16385");
+    list_file(b"size_16385_at_2");
+    list_file(b"work_1024");
+    list_file(b"work_1026");
+    list_file(b"lines_1152");
+    list_file(b"gates_8000");
+    list_file(b"gates_8001");
+    list_file(b"gates_524352");
+    list_file(b"outputs_64");
+    list_file(b"longest_file");
+    list_file(b"valid_then_zeros");
+    list_file(b"bytes_32768");
+    list_file(b"bytes_32769");
+    list_file(b"fitting_32769");
+}

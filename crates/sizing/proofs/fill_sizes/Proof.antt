@@ -1,0 +1,77 @@
+use borrow.Author.Needs.{needs}
+use Prim.Native.Nat.{_-_, _/_}
+use mathlib.Core.Path.{sym, ap, _∙_}
+use native.Mathlib.Omega.{arith}
+use lib.ListN.{length, take}
+use lib.Seq.{length-take-le}
+use Rattle.wire.proofs.FillLaws.{Filled, filled-start}
+use Rattle.program.specs.declared.node.Node.{Node}
+use Rattle.program.specs.Nodes.{nodesIn}
+use Rattle.sizing.specs.Sizing.{nodeSize, nodeSizes}
+use Rattle.sizing.proofs.SizeLaws.{filled-known, size-stored, sizes-stored}
+use Rattle.sizing.proofs.fill_sizes.Statement.{statement}
+use Rattle.sizing.proofs.fill_sizes.Tie as tie
+
+abbrev Inv-loop : tie.InvT-loop
+Inv-loop nodes sizes₀ i₀ sizes i = Filled (nodeSizes (nodesIn nodes)) sizes₀ sizes i
+
+abbrev μ-loop : tie.MeasureT-loop
+μ-loop nodes sizes₀ i₀ sizes i = length nodes / 6 - i
+
+loop-holds : tie.Need-loop-holds Inv-loop μ-loop
+loop-holds c = filled-start
+
+node-at-requires : tie.Need-node-at-requires Inv-loop μ-loop
+node-at-requires c κs = search needs
+
+slice-reshare-prefix-node-size : tie.Need-slice-reshare-prefix-node-size Inv-loop μ-loop
+slice-reshare-prefix-node-size c = omega (arith, c .before .loop-test .taken, c .before .before .loop .inv .same, c .before .before .before .before .before .pre .fits)
+
+slice-aggregate-node-size : tie.Need-slice-aggregate-node-size Inv-loop μ-loop
+slice-aggregate-node-size c = sym (length-take-le _ _ (omega (arith, c .before .before .loop-test .taken, c .before .before .before .loop .inv .same, c .before .before .before .before .before .before .pre .fits)))
+
+node-size-requires : tie.Need-node-size-requires Inv-loop μ-loop
+node-size-requires c κs = rw (c .before .node-at .ensures) (filled-known _ (c .before .before .before .loop .inv) (c .before .before .before .before .before .before .pre) (c .before .before .loop-test .taken))
+
+mul-sizes : tie.Need-mul-sizes Inv-loop μ-loop
+mul-sizes c = omega (arith, c .before .before .before .loop-test .taken)
+
+slice-write-sizes : tie.Need-slice-write-sizes Inv-loop μ-loop
+slice-write-sizes c = omega (arith, c .before .before .before .loop-test .taken, c .before .before .before .before .loop .inv .same, c .before .before .before .before .before .before .before .pre .fits)
+
+add-i : tie.Need-add-i Inv-loop μ-loop
+add-i c = search needs
+
+loop-less : tie.Need-loop-less Inv-loop μ-loop
+loop-less c = search needs
+
+loop-again : tie.Need-loop-again Inv-loop μ-loop
+loop-again c =
+    let at = c .before .before .before .before .loop in
+    let size = c .node-size .ensures ∙ ap (λ (o : Node). nodeSize o (take (at .i) (at .sizes))) (c .before .before .node-at .ensures) in
+    size-stored _ (at .inv) (c .before .before .before .before .before .before .before .pre) (c .before .before .before .loop-test .taken) size
+
+same-length : tie.Need-same-length Inv-loop μ-loop
+same-length c = c .before .loop .inv .same
+
+returns : tie.Need-returns Inv-loop μ-loop
+returns c = sizes-stored _ (c .before .loop .inv) (c .loop-test .left)
+
+pub fill-sizes-spec : {M : Type 1} → statement M
+fill-sizes-spec =
+    tie.close
+    (tie.spec
+    Inv-loop
+    μ-loop
+    loop-holds
+    node-at-requires
+    slice-reshare-prefix-node-size
+    slice-aggregate-node-size
+    node-size-requires
+    mul-sizes
+    slice-write-sizes
+    add-i
+    loop-less
+    loop-again
+    same-length
+    returns)

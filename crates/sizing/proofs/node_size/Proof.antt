@@ -1,0 +1,147 @@
+use mathlib.Core.Path.{refl, ap, _∙_}
+use native.Mathlib.Nat.{add-zero}
+use native.Mathlib.Omega.{arith}
+use Rattle.sizing.specs.Sizing.{shown, nodeSize}
+use Rattle.sizing.proofs.SizeLaws.{not-operand, xor-operands, and-operands}
+use borrow.Author.Needs.{needs}
+use Rattle.sizing.proofs.node_size.Statement.{statement}
+use Rattle.sizing.proofs.node_size.Tie as tie
+
+enum-told : tie.Need-enum-told
+enum-told c = search needs
+
+enum-told-2 : tie.Need-enum-told-2
+enum-told-2 c = search needs
+
+enum-told-3 : tie.Need-enum-told-3
+enum-told-3 c = search needs
+
+enum-known-node : tie.Need-enum-known-node
+enum-known-node c = search needs
+
+cast-joined : tie.Need-cast-joined
+cast-joined c = search needs
+
+mul-joined : tie.Need-mul-joined
+mul-joined c = search needs
+
+shared-slice-read-joined : tie.Need-shared-slice-read-joined
+shared-slice-read-joined c = not-operand (c .before .before .before .before .before .pre) (c .before .before .node .given .1)
+
+joined-requires : tie.Need-joined-requires
+joined-requires c κs = search needs
+
+enum-known-node-2 : tie.Need-enum-known-node-2
+enum-known-node-2 c = search needs
+
+cast-joined-2 : tie.Need-cast-joined-2
+cast-joined-2 c = search needs
+
+mul-joined-2 : tie.Need-mul-joined-2
+mul-joined-2 c = search needs
+
+shared-slice-read-joined-2 : tie.Need-shared-slice-read-joined-2
+shared-slice-read-joined-2 c =
+    let o = xor-operands (c .before .before .before .before .before .pre) (c .before .before .node2 .given .1) in
+    omega (arith, o .0, o .1)
+
+cast-joined-3 : tie.Need-cast-joined-3
+cast-joined-3 c = search needs
+
+mul-joined-3 : tie.Need-mul-joined-3
+mul-joined-3 c = search needs
+
+shared-slice-read-joined-3 : tie.Need-shared-slice-read-joined-3
+shared-slice-read-joined-3 c =
+    let o = xor-operands (c .before .before .before .before .before .before .pre) (c .before .before .before .node2 .given .1) in
+    omega (arith, o .0, o .1)
+
+joined-requires-2 : tie.Need-joined-requires-2
+joined-requires-2 c κs = search needs
+
+enum-known-node-3 : tie.Need-enum-known-node-3
+enum-known-node-3 c = search needs
+
+cast-joined-4 : tie.Need-cast-joined-4
+cast-joined-4 c = search needs
+
+mul-joined-4 : tie.Need-mul-joined-4
+mul-joined-4 c = search needs
+
+shared-slice-read-joined-4 : tie.Need-shared-slice-read-joined-4
+shared-slice-read-joined-4 c =
+    let o = and-operands (c .before .before .before .before .before .pre) (c .before .before .node3 .given .1) in
+    omega (arith, o .0, o .1)
+
+cast-joined-5 : tie.Need-cast-joined-5
+cast-joined-5 c = search needs
+
+mul-joined-5 : tie.Need-mul-joined-5
+mul-joined-5 c = search needs
+
+shared-slice-read-joined-5 : tie.Need-shared-slice-read-joined-5
+shared-slice-read-joined-5 c =
+    let o = and-operands (c .before .before .before .before .before .before .pre) (c .before .before .before .node3 .given .1) in
+    omega (arith, o .0, o .1)
+
+joined-requires-3 : tie.Need-joined-requires-3
+joined-requires-3 c κs = search needs
+
+returns : tie.Need-returns
+unfolding nodeSize
+returns c = rw (c .enum-told .given .1) refl
+
+returns-2 : tie.Need-returns-2
+unfolding nodeSize
+returns-2 c = rw (c .enum-told2 .given .1) refl
+
+returns-3 : tie.Need-returns-3
+unfolding nodeSize
+returns-3 c = rw (c .enum-told3 .given .1) refl
+
+returns-4 : tie.Need-returns-4
+unfolding nodeSize
+returns-4 c = rw (c .before .before .before .node .given .1) (c .joined .ensures ∙ ap shown (add-zero _))
+
+returns-5 : tie.Need-returns-5
+unfolding nodeSize
+returns-5 c = rw (c .before .before .before .before .node2 .given .1) (c .joined2 .ensures)
+
+returns-6 : tie.Need-returns-6
+unfolding nodeSize
+returns-6 c = rw (c .before .before .before .before .node3 .given .1) (c .joined3 .ensures)
+
+pub node-size-spec : {M : Type 1} → statement M
+node-size-spec =
+    tie.close
+    (tie.spec
+    enum-told
+    enum-told-2
+    enum-told-3
+    enum-known-node
+    cast-joined
+    mul-joined
+    shared-slice-read-joined
+    joined-requires
+    enum-known-node-2
+    cast-joined-2
+    mul-joined-2
+    shared-slice-read-joined-2
+    cast-joined-3
+    mul-joined-3
+    shared-slice-read-joined-3
+    joined-requires-2
+    enum-known-node-3
+    cast-joined-4
+    mul-joined-4
+    shared-slice-read-joined-4
+    cast-joined-5
+    mul-joined-5
+    shared-slice-read-joined-5
+    joined-requires-3
+    returns
+    returns-2
+    returns-3
+    returns-4
+    returns-5
+    returns-6)

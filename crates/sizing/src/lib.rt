@@ -1,0 +1,68 @@
+// The unfolded sizes of the nodes of a table, front to back, each from those before it.
+use program::node::Node;
+use program::node::node_at;
+use program::reader::output_at;
+ghost use mathlib.Core.Path.{_≡_};
+ghost use mathlib.Core.List.{_++_};
+ghost use Prim.Native.Nat.{_+_, _/_};
+ghost use lib.ListN.{length, drop};
+ghost use Rattle.wire.specs.Checks.{lowest};
+ghost use Rattle.program.specs.Nodes.{nodesIn};
+ghost use Rattle.sizing.specs.Sizing.{shown, nodeSize, nodeSizes, entryFits, Sizeable, Known, Named};
+
+// The largest size that is told apart; the list shows it for every larger one too.
+const TOO_LARGE: u64 = 16385;
+
+// A node's entry in the size list, where its operands have these entries.
+fn joined(a: u16, b: u16) -> u16
+    ensures { λ r. ⌜ r ≡ shown (1 + a + b) ⌝ }
+{
+    let sum = 1 + a as u64 + b as u64;
+    if sum < TOO_LARGE {
+        return sum as u16;
+    }
+    TOO_LARGE as u16
+}
+
+// A node's entry, where sizes has those of the nodes before it.
+fn node_size(node: Node, sizes: &[u16]) -> u16
+    requires { ⌜ Known node (length (now sizes)) ⌝ }
+    ensures { λ r. ⌜ r ≡ nodeSize node (now (sizes .entry)) ⌝ }
+{
+    match node {
+        Node::Zero => 1,
+        Node::One => 1,
+        Node::Input(_) => 1,
+        Node::Not(a) => joined(sizes[a as usize], 0),
+        Node::Xor(a, b) => joined(sizes[a as usize], sizes[b as usize]),
+        Node::And(a, b) => joined(sizes[a as usize], sizes[b as usize]),
+    }
+}
+
+// Stores the entry of each node of a node body at the node's index.
+pub fn fill_sizes(nodes: &[u8], sizes: &mut [u16])
+    requires { ⌜ Sizeable (now nodes) (length (now sizes)) ⌝ }
+    ensures { λ _. ⌜ now (sizes .exit) ≡ nodeSizes (nodesIn (now (nodes .entry))) ++ drop (length (now (nodes .entry)) / 6) (now (sizes .entry)) ⌝ }
+{
+    let mut i = 0;
+    while i < nodes.len() / 6 {
+        let size = node_size(node_at(nodes, i), &sizes[..i]);
+        sizes[i] = size;
+        i += 1;
+    }
+}
+
+// The lowest output whose node's size is over 16,384, or the number of outputs.
+pub fn first_too_large(outputs: &[u8], sizes: &[u16]) -> usize
+    requires { ⌜ Named (now outputs) (length (now sizes)) ⌝ }
+    ensures { λ r. ⌜ r ≡ lowest (entryFits (now (sizes .entry)) (now (outputs .entry))) (length (now (outputs .entry)) / 2) ⌝ }
+{
+    let mut k = 0;
+    while k < outputs.len() / 2 {
+        if 16384 < sizes[output_at(outputs, k)] {
+            return k;
+        }
+        k += 1;
+    }
+    k
+}

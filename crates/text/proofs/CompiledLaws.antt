@@ -1,0 +1,45 @@
+-- Laws of listing what the service compile answers with the size list and the area that are lent to it. Assumes nothing.
+use Prim.Native.Nat.{ℕ, _≤_}
+use mathlib.Core.Path.{_≡_, sym, ap, _∙_}
+use mathlib.Core.List.{List}
+use lib.ListN.{length, take}
+use Rattle.io.specs.Counts.{Counts}
+use Rattle.wire.specs.Answers.{Answer, mapAnswer}
+use Rattle.wire.proofs.AnswerLaws.{same-result}
+use Rattle.circuit.specs.Circuits.{Circuit, headOf}
+use Rattle.compile.specs.declared.Compiled.{Compiled}
+use Rattle.compile.specs.Compiling.{compileFile, compileOf, compiled}
+use Rattle.compile.proofs.AcceptedLaws.{Accepted, accepted, legal}
+use Rattle.text.specs.Lines.{listing}
+use Rattle.text.specs.Putting.{Put, listed, Listable}
+use Rattle.text.proofs.ListingLaws.{LegalResult, listed-is, listable, put-whole, put-counts}
+
+module _ (f : List ℕ) (grant : ℕ) (sizes area₀ : List ℕ) where
+  -- what compiling gives
+  abbrev x : Answer Circuit
+  x = compileFile f grant (length sizes) (length area₀)
+
+  -- the circuit of an accepted file is one that a file can hold
+  legal-result : LegalResult x
+  unfolding compileOf
+  legal-result c e =
+      let a : Accepted f grant sizes area₀ (headOf c) = accepted f grant sizes area₀ (headOf c) (ap (mapAnswer headOf) e) in
+      rw (same-result c _ (sym e ∙ a .is)) (legal f grant sizes area₀ (headOf c) a)
+
+  module _ (answer : Compiled) (area buffer : List ℕ)
+      (a : compiled answer ≡ compileOf f grant sizes area₀ .answer)
+      (s : area ≡ compileOf f grant sizes area₀ .area)
+      (n : 160096 ≤ length buffer) where
+    -- the listing can be put
+    pub can-list : Listable answer area buffer
+    unfolding compileOf
+    can-list = listable x legal-result area₀ answer area buffer a s n
+
+    -- and once it is put it is that of the file
+    module _ {r : ℕ} {new : List ℕ} (p : Put (listed answer area) 0 r buffer new) where
+      pub lists : take r new ≡ listing x
+      unfolding compileOf
+      lists = put-whole (can-list .room) p ∙ listed-is x legal-result area₀ answer area a s
+
+      pub lists-counts : Counts r new
+      lists-counts = put-counts (can-list .room) p

@@ -1,0 +1,5 @@
+pub mod CaseLaws
+pub mod CompiledLaws
+pub mod DigitLaws
+pub mod ListingLaws
+pub mod PutLaws

@@ -1,0 +1,44 @@
+use Prim.Native.Nat.{ℕ}
+use native.Mathlib.Omega.{arith}
+use mathlib.Core.Path.{ap₂, _∙_}
+use lib.ListN.{length-replicate}
+use borrow.Author.Needs.{needs}
+use Rattle.compile.specs.Compiling.{compileFile}
+use Rattle.text.specs.Lines.{listing}
+use Rattle.text.proofs.CompiledLaws.{can-list, lists, lists-counts}
+use Rattle.text.proofs.list.Statement.{statement}
+use Rattle.text.proofs.list.Tie as tie
+
+slice-aggregate-compile : tie.Need-slice-aggregate-compile
+slice-aggregate-compile c = search needs
+
+slice-aggregate-compile-2 : tie.Need-slice-aggregate-compile-2
+slice-aggregate-compile-2 c = search needs
+
+compile-requires : tie.Need-compile-requires
+compile-requires c κs = search needs
+
+slice-aggregate-put-listing : tie.Need-slice-aggregate-put-listing
+slice-aggregate-put-listing c = search needs
+
+put-listing-requires : tie.Need-put-listing-requires
+put-listing-requires c κs = can-list (c .before .before .before .before .before .before .before .before .args .input .now) (c .before .before .before .before .before .before .before .before .args .grant) _ _ _ _ _ (c .before .before .before .before .compile .ensures .0) (c .before .before .before .before .compile .ensures .1 .1 .0) (omega arith)
+
+returns : tie.Need-returns
+returns c =
+    let a = c .before .before .before .before .before .before .before .before .before .args in
+    let e = c .before .before .before .before .before .compile .ensures in
+    let p = c .put-listing .ensures in
+    let same = ap₂ (λ (entries room : ℕ). listing (compileFile (a .input .now) (a .grant) entries room)) (length-replicate {A = ℕ} 4096 0) (length-replicate {A = ℕ} 64028 0) in
+    (lists-counts (a .input .now) (a .grant) _ _ _ _ _ (e .0) (e .1 .1 .0) (omega arith) p, lists (a .input .now) (a .grant) _ _ _ _ _ (e .0) (e .1 .1 .0) (omega arith) p ∙ same)
+
+pub list-spec : {M : Type 1} → statement M
+list-spec =
+    tie.close
+    (tie.spec
+    slice-aggregate-compile
+    slice-aggregate-compile-2
+    compile-requires
+    slice-aggregate-put-listing
+    put-listing-requires
+    returns)

@@ -1,0 +1,45 @@
+-- Laws of a loop that stores the entries of a list in their order. Assumes nothing.
+use Prim.Native.Nat.{ℕ, _+_, _<_, _≤_}
+use native.Mathlib.Omega.{arith}
+use mathlib.Core.Path.{_≡_, refl, sym, ap, ap₂, _∙_}
+use mathlib.Core.List.{List, [], _∷_, _++_}
+use lib.ListN.{length, getD, take, drop, set, length-set}
+use lib.Seq.{take-all, take-at, set-at, append-snoc, length-take-le}
+use Rattle.wire.proofs.ListLaws.{drop-next, take-next}
+
+-- a loop has stored the first i entries of all in the list, which was list₀
+pub record Filled (all list₀ list : List ℕ) (i : ℕ) : Type 0 where
+  pub within : i ≤ length all
+  pub same : length list ≡ length list₀
+  pub is : list ≡ take i all ++ drop i list₀
+
+module _ {all list₀ : List ℕ} where
+  pub filled-start : Filled all list₀ list₀ 0
+  filled-start = record { within = omega arith; same = refl; is = refl }
+
+  module _ {list : List ℕ} {i : ℕ} (p : Filled all list₀ list i) where
+    stored : length (take i all) ≡ i
+    stored = length-take-le i all (p .within)
+
+    -- the first i entries are stored
+    pub filled-front : take i list ≡ take i all
+    filled-front = ap (take i) (p .is) ∙ take-at (take i all) (drop i list₀) i stored
+
+    pub filled-next : {v : ℕ} → v ≡ getD all i 0 → i < length all → length all ≤ length list₀ → Filled all list₀ (set list i v) (i + 1)
+    filled-next {v} e h fits =
+        let joined : (take i all ++ (getD all i 0 ∷ [])) ++ drop (i + 1) list₀ ≡ take i all ++ getD all i 0 ∷ drop (i + 1) list₀ = append-snoc (take i all) (getD all i 0) (drop (i + 1) list₀) in
+        record {
+          within = omega arith;
+          same = length-set list i v ∙ p .same;
+          is =
+              ap₂ (λ (l : List ℕ) (w : ℕ). set l i w) (p .is ∙ ap (λ (l : List ℕ). take i all ++ l) (drop-next list₀ i 0 (omega arith))) e
+              ∙ set-at (take i all) (getD list₀ i 0) (drop (i + 1) list₀) (getD all i 0) i stored
+              ∙ sym joined
+              ∙ ap (λ (l : List ℕ). l ++ drop (i + 1) list₀) (sym (take-next all i 0 h));
+        }
+
+    -- every entry is stored
+    pub filled-all : length all ≤ i → list ≡ all ++ drop (length all) list₀
+    filled-all h =
+        let e : i ≡ length all = omega (arith, p .within) in
+        p .is ∙ ap₂ (λ (l : List ℕ) (n : ℕ). l ++ drop n list₀) (take-all i all h) e

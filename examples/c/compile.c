@@ -1,0 +1,108 @@
+/* Links liboracle.a as a loader would: compiles a small program file, reads the circuit file back,
+ * runs it on every input with the work lines zero and not zero, and shows refusals. It exits with 1
+ * where an answer is not the one that it expects. */
+#include <stdio.h>
+#include <string.h>
+
+#include "and.h"
+#include "check.h"
+
+enum { PROGRAM = sizeof and_program, CIRCUIT = sizeof and_circuit, LINES = 5, NODES = 3 };
+
+/* The areas are longer than needed, and what is behind the last byte written has to stay. */
+enum { AREA = CIRCUIT + 4, SIZES = NODES + 1 };
+
+/* Each input has size 1 and the AND of them 3; the entry behind them is as it was. */
+static bool sizes_filled(const uint16_t sizes[SIZES])
+{
+    return sizes[0] == 1 && sizes[1] == 1 && sizes[2] == 3 && sizes[3] == 9;
+}
+
+static void show_circuit(const uint8_t circuit[CIRCUIT])
+{
+    printf("lines %d %d %d\n", circuit[22], circuit[24], circuit[26]);
+    printf("first bytes:");
+    for (size_t i = 0; i < 36; i++)
+        printf(" %02x", circuit[i]);
+    printf("\n");
+    show("gates", oracle_read_circuit(circuit, CIRCUIT), 0, 5);
+}
+
+/* Runs forwards from a start and checks every line. */
+static void run(const uint8_t circuit[CIRCUIT], const uint8_t start[LINES],
+                const uint8_t end[LINES])
+{
+    uint8_t lines[LINES];
+    memcpy(lines, start, LINES);
+
+    oracle_answer answer = oracle_run_forwards(circuit, CIRCUIT, lines, LINES);
+    holds(answer.number == 0 && answer.value == 0, "the answer to a run");
+    printf("%d%d%d%d%d to %d%d%d%d%d\n", start[0], start[1], start[2], start[3], start[4],
+           lines[0], lines[1], lines[2], lines[3], lines[4]);
+    holds(memcmp(lines, end, LINES) == 0, "the lines after a run");
+}
+
+static void show_runs(const uint8_t circuit[CIRCUIT])
+{
+    for (uint8_t a = 0; a < 2; a++) {
+        for (uint8_t b = 0; b < 2; b++) {
+            for (uint8_t target = 0; target < 2; target++) {
+                const uint8_t start[LINES] = {a, b, target, 0, 0};
+                const uint8_t end[LINES] = {a, b, target ^ (a & b), 0, 0};
+                run(circuit, start, end);
+            }
+        }
+    }
+
+    /* Line 3 starts at 1: another value goes into the target, but line 3 ends as it started. */
+    for (uint8_t a = 0; a < 2; a++) {
+        for (uint8_t b = 0; b < 2; b++) {
+            const uint8_t start[LINES] = {a, b, 1, 1, 0};
+            const uint8_t end[LINES] = {a, b, 1 ^ ((1 ^ a) & b), 1, 0};
+            run(circuit, start, end);
+        }
+    }
+}
+
+static void show_refusals(void)
+{
+    uint8_t area[AREA];
+    uint16_t sizes[SIZES] = {9, 9, 9, 9};
+    memset(area, 9, AREA);
+
+    show("empty file", oracle_compile(NULL, 0, 2, sizes, SIZES, area, AREA), 1, 0);
+    show("list of 2",
+         oracle_compile(and_program, PROGRAM, 2, sizes, NODES - 1, area, AREA), 7, 0);
+    holds(sizes[0] == 9 && sizes[1] == 9 && sizes[2] == 9, "the size list after refusal 7");
+    show("no list", oracle_compile(and_program, PROGRAM, 2, NULL, 0, area, AREA), 7, 0);
+
+    show("grant of 1,025",
+         oracle_compile(and_program, PROGRAM, 1025, sizes, SIZES, area, AREA), 9, 0);
+    holds(sizes_filled(sizes), "the size list after refusal 9");
+    show("grant of 1", oracle_compile(and_program, PROGRAM, 1, sizes, SIZES, area, AREA), 10, 2);
+    holds(sizes_filled(sizes), "the size list after refusal 10");
+    holds(filled(area, AREA, 9), "the area after refusal 10");
+
+    show("a byte too few",
+         oracle_compile(and_program, PROGRAM, 2, sizes, SIZES, area, CIRCUIT - 1), 11, 5);
+    holds(sizes_filled(sizes), "the size list after refusal 11");
+    holds(filled(area, CIRCUIT - 1, 0), "the area after refusal 11");
+    holds(filled(area + CIRCUIT - 1, AREA - CIRCUIT + 1, 9), "what is behind that area");
+    show("no area", oracle_compile(and_program, PROGRAM, 2, sizes, SIZES, NULL, 0), 11, 5);
+}
+
+int main(void)
+{
+    uint8_t area[AREA];
+    uint16_t sizes[SIZES] = {9, 9, 9, 9};
+    memset(area, 9, AREA);
+
+    show("bytes", oracle_compile(and_program, PROGRAM, 2, sizes, SIZES, area, AREA), 0, CIRCUIT);
+    holds(memcmp(area, and_circuit, CIRCUIT) == 0, "the file written");
+    holds(filled(area + CIRCUIT, AREA - CIRCUIT, 9), "the area behind the file written");
+    holds(sizes_filled(sizes), "the nodes' sizes, and the entry behind them");
+    show_circuit(area);
+    show_runs(area);
+    show_refusals();
+    return all_as_expected ? 0 : 1;
+}

@@ -1,0 +1,726 @@
+//! compile: the archive beside the model, both lent areas before and after included.
+
+use agreement::circuit::{cnot, not as flip, toffoli, Circuit};
+use agreement::lent::lent;
+use agreement::program::{self, and, input, not, xor, Node, Program, ONE, ZERO};
+use agreement::random::Random;
+use agreement::tally::Tally;
+use agreement::{drawn, hex, limits, shaped, shaped_circuit, Outcome};
+use model::construct;
+
+/// The length of a circuit file without gates.
+const NO_GATES: usize = 28;
+
+/// The length of the longest circuit file, of 8,000 gates.
+const MOST_BYTES: usize = 64_028;
+
+/// Grants over 1,024, as wide as the parameter. In 16 or 32 bits, some would be 0 or 2.
+const TOO_HIGH: [u64; 10] = [
+    1_025,
+    1_026,
+    2_048,
+    65_535,
+    1 << 16,
+    (1 << 16) + 2,
+    1 << 32,
+    (1 << 32) + 2,
+    1 << 63,
+    u64::MAX,
+];
+
+/// What one call is given.
+struct Case {
+    file: Vec<u8>,
+    grant: u64,
+    sizes: Vec<u16>,
+    area: Vec<u8>,
+}
+
+impl Case {
+    /// A case with areas of these lengths that hold no two equal neighbours, and no zero.
+    fn new(file: &[u8], grant: u64, entries: usize, length: usize) -> Case {
+        Case {
+            file: file.to_vec(),
+            grant,
+            sizes: (0..entries).map(|at| at as u16 | 0x8000).collect(),
+            area: (0..length).map(|at| at as u8 | 0x80).collect(),
+        }
+    }
+
+    fn describe(&self) -> String {
+        let (grant, entries, length) = (self.grant, self.sizes.len(), self.area.len());
+        format!("grant {grant}, list of {entries}, area of {length}, file of {}", hex(&self.file))
+    }
+}
+
+/// What one call gives, and the size list and the area after it.
+type Compiled = (Outcome<usize>, Vec<u16>, Vec<u8>);
+
+fn archive(case: &Case) -> Compiled {
+    let (((outcome, area), sizes), file) = lent(&case.file, |file| {
+        lent(&case.sizes, |sizes| {
+            lent(&case.area, |area| {
+                oracle::compile(file, case.grant, sizes, area)
+                    .map_err(|refusal| (refusal.number, refusal.place))
+            })
+        })
+    });
+    assert!(file == case.file, "the file was written");
+    (outcome, sizes, area)
+}
+
+fn model(case: &Case) -> Compiled {
+    let (mut sizes, mut area) = (case.sizes.clone(), case.area.clone());
+    let outcome = model::compile::compile(&case.file, case.grant, &mut sizes, &mut area)
+        .map_err(|refusal| (refusal.number, refusal.place));
+    (outcome, sizes, area)
+}
+
+/// Runs both sides on a case and holds them to each other and to what 01 says of each outcome.
+fn compare(case: &Case) -> Outcome<usize> {
+    let (expected, expected_sizes, expected_area) = model(case);
+    let (outcome, sizes, area) = archive(case);
+    assert_eq!(outcome, expected, "the archive, then the model, {}", case.describe());
+    match outcome {
+        Ok(length) => {
+            reads_back(case, &area[..length]);
+            assert!(area[length..] == case.area[length..], "past the file, {}", case.describe());
+        }
+        Err((11, _)) => assert!(area.iter().all(|byte| *byte == 0), "11, {}", case.describe()),
+        Err(_) => assert!(area == case.area, "a refusal leaves the area, {}", case.describe()),
+    }
+    match outcome {
+        Err((1..=7, _)) => assert_eq!(sizes, case.sizes, "1 to 7, {}", case.describe()),
+        _ => holds_sizes(case, &sizes),
+    }
+    assert_eq!(sizes, expected_sizes, "the lists of archive and model, {}", case.describe());
+    assert!(area == expected_area, "the areas of archive and model differ, {}", case.describe());
+    outcome
+}
+
+/// The list starts with the nodes' sizes, as their operands' give them, and ends as it did before.
+fn holds_sizes(case: &Case, sizes: &[u16]) {
+    use model::program::Node::{And, Input, Not, One, Xor, Zero};
+
+    let nodes = model::program::read(&case.file).expect("a filled list needs a program").nodes;
+    let size = |i: usize| u32::from(sizes[i]);
+    for (i, node) in nodes.iter().enumerate() {
+        let unfolded = match *node {
+            Zero | One | Input(_) => 1,
+            Not(a) => 1 + size(a),
+            Xor(a, b) | And(a, b) => 1 + size(a) + size(b),
+        };
+        assert_eq!(size(i), unfolded.min(16_385), "the size of node {i}, {}", case.describe());
+    }
+    let behind = nodes.len();
+    assert_eq!(sizes[behind..], case.sizes[behind..], "past the nodes, {}", case.describe());
+}
+
+/// Both readers accept what was written: the program's head, and the construction's gates.
+fn reads_back(case: &Case, written: &[u8]) {
+    let program = model::program::read(&case.file).expect("a result needs a program");
+    let wanted = construct::circuit(&program);
+    let given = model::circuit::read(written);
+    let given = given.unwrap_or_else(|refusal| panic!("{refusal:?}, {}", case.describe()));
+    for (at, (gate, wanted)) in given.gates.iter().zip(&wanted.gates).enumerate() {
+        assert_eq!(gate, wanted, "gate {at}, {}", case.describe());
+    }
+    let count = wanted.gates.len();
+    assert_eq!(given.gates.len(), count, "the number of gates, {}", case.describe());
+    assert_eq!(oracle::read_circuit(written), Ok(count as u64), "{}", case.describe());
+    assert_eq!(
+        (given.inputs, given.outputs, given.work),
+        (wanted.inputs, wanted.outputs, wanted.work),
+        "the head, {}",
+        case.describe()
+    );
+}
+
+/// A shaped case on both sides, with what is expected of the answer, the list and the area.
+fn check(name: &str, case: &Case, expected: Outcome<usize>, sizes: &[u16], area: &[u8]) {
+    let sides = [("model", model(case)), ("archive", archive(case))];
+    for (side, (outcome, sizes_after, area_after)) in sides {
+        assert_eq!(outcome, expected, "{name}, {side}, {}", case.describe());
+        assert_eq!(sizes_after, sizes, "{name}, {side}, the list, {}", case.describe());
+        assert!(area_after == area, "{name}, {side}, the area, {}", case.describe());
+    }
+}
+
+/// The list of a case once it is filled with these sizes.
+fn filled(case: &Case, sizes: &[u16]) -> Vec<u16> {
+    [sizes, &case.sizes[sizes.len()..]].concat()
+}
+
+/// A program compiles to this circuit: with grants and areas that are enough, and is refused with
+/// those that are not, in the order of the causes.
+fn gives(name: &str, program: &Program, sizes: &[u16], circuit: &Circuit) {
+    let file = program.bytes();
+    let written = circuit.bytes();
+    let (work, gates) = (u64::from(circuit.work), circuit.gates.len() as u64);
+    assert_eq!(sizes.len(), program.nodes.len(), "{name}: a size for each node");
+    for entries in [sizes.len(), sizes.len() + 1, sizes.len() + 40] {
+        for grant in [work, (work + 1).min(1_024), 1_023.max(work), 1_024] {
+            accepted(name, (&file, grant, entries), sizes, &written);
+            for length in too_short(written.len()) {
+                let case = Case::new(&file, grant, entries, length);
+                let zero = vec![0; length];
+                check(name, &case, Err((11, gates)), &filled(&case, sizes), &zero);
+            }
+        }
+        for length in [written.len() + 8, written.len(), written.len() - 1, 0] {
+            let too_low = [0, work / 2, work.saturating_sub(1)].map(|grant| (grant, (10, work)));
+            let too_low = too_low.into_iter().filter(|_| work > 0);
+            let too_high = TOO_HIGH.map(|grant| (grant, (9, 0)));
+            for (grant, refusal) in too_low.chain(too_high) {
+                let case = Case::new(&file, grant, entries, length);
+                check(name, &case, Err(refusal), &filled(&case, sizes), &case.area);
+            }
+        }
+    }
+    short_lists(name, &file, sizes.len(), work);
+}
+
+/// Areas that are long enough: the file stands at the start, and what is behind stays.
+fn accepted(name: &str, call: (&[u8], u64, usize), sizes: &[u16], written: &[u8]) {
+    let (file, grant, entries) = call;
+    for more in [0, 1, 7, 8, 100, MOST_BYTES] {
+        let case = Case::new(file, grant, entries, written.len() + more);
+        let area = [written, &case.area[written.len()..]].concat();
+        check(name, &case, Ok(written.len()), &filled(&case, sizes), &area);
+    }
+}
+
+/// Lengths of areas that are too short for a file.
+fn too_short(needed: usize) -> [usize; 7] {
+    [needed - 1, needed - 7, needed - 8, NO_GATES - 1, 22, 1, 0]
+}
+
+/// Lists that are too short: 7, whatever the grant and the area, and both areas stay.
+fn short_lists(name: &str, file: &[u8], nodes: usize, work: u64) {
+    for entries in [0, 1, nodes / 2, nodes - 1].into_iter().filter(|entries| *entries < nodes) {
+        for grant in [0, work, 1_024, 1_025, u64::MAX] {
+            for length in [0, 1, NO_GATES, MOST_BYTES] {
+                let case = Case::new(file, grant, entries, length);
+                check(name, &case, Err((7, 0)), &case.sizes, &case.area);
+            }
+        }
+    }
+}
+
+/// A program is refused whatever the area; the list is filled and the area as it was, or, at 11,
+/// all zero.
+fn refuses(name: &str, program: &Program, grant: u64, refusal: (u64, u64)) {
+    let file = program.bytes();
+    let nodes = program.nodes.len();
+    let unfolded = construct::sizes(&drawn::read(program).nodes);
+    let sizes: Vec<u16> = unfolded.iter().map(|size| *size as u16).collect();
+    for entries in [nodes, nodes + 1, 5_000] {
+        for length in [0, 1, NO_GATES - 1, NO_GATES, MOST_BYTES - 1, MOST_BYTES, 700_000] {
+            let case = Case::new(&file, grant, entries, length);
+            let area = if refusal.0 == 11 { vec![0; length] } else { case.area.clone() };
+            check(name, &case, Err(refusal), &filled(&case, &sizes), &area);
+        }
+    }
+}
+
+#[test]
+fn the_whole_case() {
+    let circuit = shaped_circuit::whole_case();
+    assert_eq!(circuit.bytes().len(), 68);
+    gives("the whole case", &shaped::whole_case(), &[1, 1, 3], &circuit);
+
+    let file = shaped::WHOLE_CASE;
+    let case = Case::new(&file, 2, 3, 67);
+    check("an area of 67", &case, Err((11, 5)), &[1, 1, 3], &[0; 67]);
+    let case = Case::new(&file, 1, 3, 68);
+    check("a grant of 1", &case, Err((10, 2)), &[1, 1, 3], &case.area);
+    let case = Case::new(&file, 2, 3, 68);
+    check("a grant of 2", &case, Ok(68), &[1, 1, 3], &shaped_circuit::WHOLE_CASE);
+}
+
+#[test]
+fn the_other_examples() {
+    gives("NOR", &shaped::nor(), &[1, 1, 2, 2, 5], &shaped_circuit::nor());
+    assert_eq!((shaped_circuit::nor().gates.len(), shaped_circuit::nor().work), (9, 2));
+
+    gives(
+        "AND of three",
+        &shaped::and_of_three(),
+        &[1, 1, 3, 1, 5],
+        &shaped_circuit::and_of_three(),
+    );
+    refuses("AND of three, grant 3", &shaped::and_of_three(), 3, (10, 4));
+
+    let circuit = Circuit::new(1, 1, 0, &[cnot(0, 1), cnot(0, 1)]);
+    gives("XOR with itself", &shaped::xor_with_itself(), &[1, 3], &circuit);
+
+    gives("output ZERO", &shaped::output_zero(), &[1], &Circuit::new(0, 1, 0, &[]));
+    let one = Program::new(0, &[ONE], &[0]);
+    gives("output ONE", &one, &[1], &Circuit::new(0, 1, 0, &[flip(0)]));
+}
+
+/// A node is built anew at each use, on new lines, and all lines are free again for the next
+/// output.
+#[test]
+fn shared_nodes_and_several_outputs() {
+    let nodes = [input(0), and(0, 0), xor(1, 1)];
+    let build =
+        [cnot(0, 2), cnot(0, 3), toffoli(2, 3, 1), cnot(0, 4), cnot(0, 5), toffoli(4, 5, 1)];
+    let clean = [cnot(0, 5), cnot(0, 4), cnot(0, 3), cnot(0, 2)];
+    let circuit = Circuit::new(1, 1, 4, &[&build[..], &clean].concat());
+    gives("a shared AND", &Program::new(1, &nodes, &[2]), &[1, 3, 7], &circuit);
+
+    // The second of three outputs takes the most lines.
+    let nodes = [input(0), ONE, and(0, 1), and(2, 0)];
+    let first = [cnot(0, 4), flip(5), toffoli(4, 5, 1), flip(5), cnot(0, 4)];
+    let build = [cnot(0, 5), flip(6), toffoli(5, 6, 4), cnot(0, 7), toffoli(4, 7, 2)];
+    let clean = [cnot(0, 7), toffoli(5, 6, 4), flip(6), cnot(0, 5)];
+    let gates = [&first[..], &build, &clean, &[flip(3)]].concat();
+    let circuit = Circuit::new(1, 3, 4, &gates);
+    gives("three outputs", &Program::new(1, &nodes, &[2, 3, 1]), &[1, 1, 3, 5], &circuit);
+
+    // An output that is named twice has two shares; the nodes behind it have none.
+    let circuit = Circuit::new(3, 2, 0, &[cnot(2, 3), cnot(2, 4)]);
+    let twice = Program::new(3, &[input(2), and(0, 0), not(1)], &[0, 0]);
+    gives("an output twice", &twice, &[1, 3, 4], &circuit);
+}
+
+/// An AND takes two lines even where nothing is built into them.
+#[test]
+fn lines_that_no_gate_targets() {
+    let nodes = [ZERO, and(0, 0), and(1, 0)];
+    let circuit = Circuit::new(0, 1, 4, &[toffoli(2, 3, 1), toffoli(1, 4, 0), toffoli(2, 3, 1)]);
+    gives("AND of ZERO", &Program::new(0, &nodes, &[2]), &[1, 3, 5], &circuit);
+}
+
+/// 01's slip: the fourth input's AND, whose line 5 would stay dirty if C were not reversed.
+#[test]
+fn and_of_four_inputs() {
+    let mut circuit = shaped_circuit::and_of_four_built();
+    circuit.gates.extend([
+        cnot(3, 10),
+        toffoli(6, 9, 5),
+        cnot(2, 9),
+        toffoli(7, 8, 6),
+        cnot(1, 8),
+        cnot(0, 7),
+    ]);
+    gives("AND of four", &shaped::and_of_four(), &[1, 1, 3, 1, 5, 1, 7], &circuit);
+}
+
+/// Sizes of the XOR chain of 01: 2^(i+1) - 1, then NOT of it twice.
+fn chain_sizes() -> Vec<u16> {
+    let mut sizes: Vec<u16> = (1..=14).map(|power| (1 << power) - 1).collect();
+    sizes.extend([16_384, 16_385]);
+    sizes
+}
+
+#[test]
+fn the_largest_size() {
+    let chain = |outputs: &[u16]| Program::new(0, &shaped::xor_chain().nodes, outputs);
+    let none = Circuit::new(0, 1, 0, &[]);
+    gives("node 13, 16,383", &chain(&[13]), &chain_sizes(), &none);
+    let one = Circuit::new(0, 1, 0, &[flip(0)]);
+    gives("NOT of it, 16,384", &chain(&[14]), &chain_sizes(), &one);
+    for grant in [0, 1_024, 1_025, u64::MAX] {
+        refuses("NOT of that, 16,385", &chain(&[15]), grant, (8, 0));
+        refuses("the last output", &chain(&[13, 14, 15]), grant, (8, 2));
+        refuses("the first of two", &chain(&[14, 15, 13, 15, 15]), grant, (8, 1));
+        let mut outputs = [14; 64];
+        outputs[63] = 15;
+        refuses("output 63 of 64", &chain(&outputs), grant, (8, 63));
+    }
+    short_lists("a size over 16,384", &chain(&[15]).bytes(), 16, 0);
+}
+
+/// Each kind of node with a size of 16,384 and of 16,385.
+#[test]
+fn sizes_about_the_limit() {
+    // Node 12 has size 8,191, node 13 16,383, nodes 14 and 15 8,192 and 8,193.
+    let program = |last: Node| {
+        let mut nodes = vec![ZERO];
+        nodes.extend((0..13).map(|before| xor(before, before)));
+        nodes.extend([not(12), not(14), last]);
+        Program::new(0, &nodes, &[0, 16])
+    };
+    let size = |last: Node| construct::size(&drawn::read(&program(last)).nodes, 16);
+    for last in [not(13), xor(12, 14), xor(14, 12), and(12, 14), and(14, 12)] {
+        assert_eq!(size(last), 16_384, "{last:?}");
+        gives_the_models("16,384", &program(last));
+    }
+    for last in [xor(13, 0), xor(0, 13), and(13, 0), and(0, 13), xor(14, 14), and(12, 15)] {
+        assert_eq!(size(last), 16_385, "{last:?}");
+        refuses("16,385", &program(last), 1_024, (8, 1));
+    }
+    for last in [xor(13, 13), and(13, 13)] {
+        assert_eq!(size(last), 32_767, "{last:?}");
+        refuses("32,767", &program(last), 1_024, (8, 1));
+    }
+}
+
+/// Sizes that are 1 in 16, 32 or 64 bits, and the longest chain.
+#[test]
+fn sizes_far_over_the_limit() {
+    let mut nodes = vec![ZERO];
+    nodes.extend((0..4_093).map(|before| xor(before, before)));
+    nodes.extend([not(4_093), ZERO]);
+    let longest = |outputs: &[u16]| Program::new(0, &nodes, outputs);
+    let mut sizes = chain_sizes()[..14].to_vec();
+    sizes.resize(4_095, 16_385);
+    sizes.push(1);
+    gives("the longest chain", &longest(&[4_095]), &sizes, &Circuit::new(0, 1, 0, &[]));
+    refuses("its last node", &longest(&[4_095, 4_094]), 0, (8, 1));
+    for output in [14, 15, 16, 31, 32, 63, 64, 127, 4_093] {
+        refuses("a node of the chain", &longest(&[output]), 0, (8, 0));
+    }
+    // 2^(i + 1) - 1, and two more by NOT of NOT.
+    for i in [15, 31, 63] {
+        let mut nodes = nodes[..=usize::from(i)].to_vec();
+        nodes.extend([not(i), not(i + 1), and(i + 2, i + 2)]);
+        refuses("1 in fewer bits", &Program::new(0, &nodes, &[i + 2]), 0, (8, 0));
+        refuses("3 in fewer bits", &Program::new(0, &nodes, &[i + 3]), 0, (8, 0));
+    }
+}
+
+/// A program with the model's circuit, whose gates are too many to be written out here.
+fn gives_the_models(name: &str, program: &Program) {
+    let read = drawn::read(program);
+    let sizes: Vec<u16> = construct::sizes(&read.nodes).iter().map(|size| *size as u16).collect();
+    let circuit = construct::circuit(&read);
+    let gates: Vec<_> = circuit.gates.iter().map(fields).collect();
+    let [inputs, outputs, work] =
+        [circuit.inputs, circuit.outputs, circuit.work].map(|number| number as u16);
+    gives(name, program, &sizes, &Circuit::new(inputs, outputs, work, &gates));
+}
+
+fn fields(gate: &model::circuit::Gate) -> agreement::circuit::Gate {
+    use model::circuit::Gate::{Cnot, Not, Toffoli};
+
+    match *gate {
+        Not(target) => flip(target as u16),
+        Cnot(control, target) => cnot(control as u16, target as u16),
+        Toffoli(control, second, target) => toffoli(control as u16, second as u16, target as u16),
+    }
+}
+
+#[test]
+fn the_most_gates() {
+    let most = limits::most_gates();
+    let gates = vec![cnot(0, 1); 8_000];
+    let sizes: Vec<u16> =
+        construct::sizes(&drawn::read(&most).nodes).iter().map(|size| *size as u16).collect();
+    gives("8,000 gates", &most, &sizes, &Circuit::new(1, 1, 0, &gates));
+    gives_the_models("8,000 gates, 64 outputs", &limits::most_outputs());
+    for grant in [0, 1, 1_024] {
+        refuses("8,001 gates", &limits::a_gate_too_many(), grant, (11, 8_001));
+    }
+
+    let with_last_output = |node| {
+        let mut program = limits::most_outputs();
+        program.nodes.extend([ZERO, xor(0, 94)]);
+        program.outputs[63] = node;
+        program
+    };
+    refuses("8,001 gates, 64 outputs", &with_last_output(127), 62, (11, 8_001));
+    gives_the_models("7,875 gates, 64 outputs", &with_last_output(126));
+}
+
+/// Numbers of gates that are less in 16 bits.
+#[test]
+fn far_more_gates() {
+    // Node i has 2^i gates.
+    let mut nodes = vec![input(0)];
+    nodes.extend((0..13).map(|before| xor(before, before)));
+    let doubled = |outputs: &[u16]| Program::new(1, &nodes, outputs);
+    refuses("8,192 gates", &doubled(&[13]), 0, (11, 8_192));
+    let mut outputs = vec![12; 15];
+    outputs.extend(0..12);
+    refuses("65,535 gates", &doubled(&outputs), 0, (11, 65_535));
+    refuses("65,536 gates", &doubled(&[13; 8]), 0, (11, 65_536));
+    refuses("65,537 gates", &doubled(&[13, 13, 13, 13, 13, 13, 13, 13, 0]), 0, (11, 65_537));
+    refuses("524,352 gates", &limits::largest_outputs(64), 1_024, (11, 524_352));
+
+    // The most gates of one output with two lines: 2 C - 1 with C of about its size.
+    let mut nodes = vec![input(0)];
+    nodes.extend((0..4_000).map(not));
+    nodes.extend([xor(4_000, 4_000), and(4_001, 4_001)]);
+    let gates = 2 * (4 * 4_001 + 1) - 1;
+    let outputs = [4_002; 64];
+    refuses("32,009 gates", &Program::new(1, &nodes, &outputs[..1]), 2, (11, gates));
+    refuses("64 of them", &Program::new(1, &nodes, &outputs), 2, (11, 64 * gates));
+}
+
+#[test]
+fn the_most_work_lines() {
+    for input_first in [false, true] {
+        gives_the_models("1,024 lines", &limits::ands(512, input_first));
+        for grant in [0, 1, 1_023, 1_024] {
+            refuses("1,026 lines", &limits::ands(513, input_first), grant, (10, 1_026));
+        }
+        refuses("1,026 lines", &limits::ands(513, input_first), 1_025, (9, 0));
+        refuses("4,094 lines", &limits::ands(2_047, input_first), 1_024, (10, 4_094));
+    }
+
+    gives_the_models("1,152 lines in all", &limits::most_lines());
+
+    // XOR of two nodes takes the lines of both.
+    let both = |ands: u16, last: u16| {
+        let mut program = limits::ands(ands, false);
+        program.nodes.push(xor(63 + ands, 63 + last));
+        program.outputs = vec![64 + ands];
+        program
+    };
+    gives_the_models("XOR, 1,024 lines", &both(256, 256));
+    refuses("XOR, 1,024 lines, grant 1,023", &both(256, 256), 1_023, (10, 1_024));
+    refuses("XOR, 1,026 lines", &both(257, 256), 1_024, (10, 1_026));
+
+    // The most lines that a size of at most 16,384 takes.
+    let mut nodes = vec![input(0)];
+    nodes.extend((0..13).map(|before| and(before, before)));
+    let doubled = Program::new(1, &nodes, &[13]);
+    refuses("16,382 lines", &doubled, 1_024, (10, 16_382));
+    refuses("16,382 lines, grant 0", &doubled, 0, (10, 16_382));
+}
+
+/// Lines are free again for the next output, so w is the most and no sum.
+#[test]
+fn work_lines_of_several_outputs() {
+    let chain = |outputs: &[u16]| {
+        let mut program = limits::ands(513, false);
+        program.outputs = outputs.to_vec();
+        program.output_count = outputs.len() as u16;
+        program
+    };
+    // Node 63 + i takes 2 i lines.
+    for outputs in [[73, 65, 64], [65, 73, 64], [64, 65, 73], [0, 73, 73]] {
+        gives_the_models("20 lines", &chain(&outputs));
+        refuses("20 lines, grant 19", &chain(&outputs), 19, (10, 20));
+    }
+    gives_the_models("three times 1,024 lines", &chain(&[575, 575, 575]));
+    for outputs in [[576, 65, 64], [65, 576, 64], [64, 65, 576]] {
+        refuses("1,026 lines", &chain(&outputs), 1_024, (10, 1_026));
+    }
+}
+
+/// One output over each limit. Where an earlier cause is there as well, it is the one given.
+#[test]
+fn causes_together() {
+    // Node 13 has 8,192 gates, node 14 size 32,767, and node 527 is the last of 513 ANDs.
+    let mut nodes = vec![input(0)];
+    nodes.extend((0..14).map(|before| xor(before, before)));
+    nodes.push(and(0, 0));
+    nodes.extend((15..527).map(|before| and(before, 0)));
+    let program = |outputs: &[u16]| Program::new(1, &nodes, outputs);
+    let (small, gates, large, lines) = (0, 13, 14, 527);
+
+    for grant in [0, 1_023, 1_024] {
+        refuses("8, 10 and 11", &program(&[gates, lines, large]), grant, (8, 2));
+        refuses("8 and 10", &program(&[lines, large]), grant, (8, 1));
+        refuses("8 and 11", &program(&[large, gates]), grant, (8, 0));
+        refuses("10 and 11", &program(&[gates, lines]), grant, (10, 1_026));
+        refuses("10 and 11", &program(&[lines, gates]), grant, (10, 1_026));
+        refuses("11 alone", &program(&[small, gates]), grant, (11, 8_193));
+    }
+    for grant in TOO_HIGH {
+        refuses("8 to 11", &program(&[gates, lines, large]), grant, (8, 2));
+        refuses("8 and 9", &program(&[large]), grant, (8, 0));
+        refuses("9, 10 and 11", &program(&[gates, lines]), grant, (9, 0));
+        refuses("9 and 10", &program(&[lines]), grant, (9, 0));
+        refuses("9 and 11", &program(&[gates]), grant, (9, 0));
+        refuses("9 alone", &program(&[small]), grant, (9, 0));
+    }
+    short_lists("7 to 11", &program(&[gates, lines, large]).bytes(), nodes.len(), 0);
+}
+
+/// The refusals of reading come through as they are, whatever else is wrong.
+#[test]
+fn shaped_files_refused_by_the_reader() {
+    let mut refusals = 0;
+    for shaped in shaped::all() {
+        let Err(refusal) = shaped.expected else {
+            continue;
+        };
+        refusals += 1;
+        for (grant, entries, length) in
+            [(1_024, 4_096, MOST_BYTES), (0, 70_000, 1), (1_025, 2, 0), (u64::MAX, 0, 100)]
+        {
+            let case = Case::new(&shaped.file, grant, entries, length);
+            check(&shaped.name, &case, Err(refusal), &case.sizes, &case.area);
+        }
+    }
+    println!("compile: {refusals} shaped files");
+    assert!(refusals > 100, "too few shaped files");
+}
+
+/// Files that the reader accepts, at and about what their circuits need.
+#[test]
+fn shaped_files_accepted_by_the_reader() {
+    let mut random = Random::new(0x7368_6170);
+    let mut tally = Tally::new("compile, shaped files");
+    for shaped in shaped::all() {
+        let Ok(nodes) = shaped.expected else {
+            continue;
+        };
+        let (work, needed) = needs(&shaped.file).unwrap_or((0, NO_GATES));
+        let nodes = nodes as usize;
+        for grant in [work, work.saturating_sub(1), 1_024, 1_025, u64::MAX] {
+            for entries in [nodes, nodes + 1, nodes - 1] {
+                for length in [needed, needed + 1, needed - 1, 0] {
+                    let (sizes, area) = (list(&mut random, entries), random.bytes(length));
+                    let case = Case { file: shaped.file.clone(), grant, sizes, area };
+                    tally.count(&compare(&case));
+                }
+            }
+        }
+    }
+    tally.finish(1_000, &[7, 8, 9, 10, 11]);
+}
+
+/// The work lines and the bytes that the circuit of a program file needs, where no output is too
+/// large.
+fn needs(file: &[u8]) -> Option<(u64, usize)> {
+    let program = model::program::read(file).ok()?;
+    let sizes = construct::sizes(&program.nodes);
+    if program.outputs.iter().any(|i| sizes[*i] > 16_384) {
+        return None;
+    }
+    let gates = program.outputs.iter().map(|i| construct::share_gate_count(&program.nodes, *i));
+    let length = NO_GATES + 8 * gates.sum::<usize>();
+    Some((construct::most_work_lines(&program) as u64, length))
+}
+
+/// So many random entries.
+fn list(random: &mut Random, entries: usize) -> Vec<u16> {
+    (0..entries).map(|_| random.number() as u16).collect()
+}
+
+/// Every one-byte change of a small file.
+#[test]
+fn each_byte_of_the_whole_case_changed() {
+    let mut tally = Tally::new("compile, one byte changed");
+    for at in 0..shaped::WHOLE_CASE.len() {
+        for byte in 0..=255 {
+            let mut file = shaped::WHOLE_CASE.to_vec();
+            file[at] = byte;
+            for (grant, length) in [(2, 68), (1, 68), (2, 67), (1_024, 35)] {
+                tally.count(&compare(&Case::new(&file, grant, 3, length)));
+            }
+        }
+    }
+    tally.finish(56 * 256 * 4, &[1, 2, 3, 4, 5, 6, 10, 11]);
+}
+
+/// What the random cases met.
+#[derive(Default)]
+struct Seen {
+    with_shared_nodes: u64,
+    with_64_inputs_and_64_outputs: u64,
+    with_bytes_behind: u64,
+    most_gates: usize,
+    most_work_lines: u64,
+}
+
+impl Seen {
+    fn count(&mut self, case: &Case, length: usize) {
+        let program = model::program::read(&case.file).expect("a result needs a program");
+        let sizes = construct::sizes(&program.nodes);
+        let shared = program.outputs.iter().any(|i| sizes[*i] > program.nodes.len());
+        let wide = (program.inputs, program.outputs.len()) == (64, 64);
+        self.with_shared_nodes += u64::from(shared);
+        self.with_64_inputs_and_64_outputs += u64::from(wide);
+        self.with_bytes_behind += u64::from(case.area.len() > length);
+        self.most_gates = self.most_gates.max((length - NO_GATES) / 8);
+        self.most_work_lines =
+            self.most_work_lines.max(construct::most_work_lines(&program) as u64);
+    }
+
+    fn finish(&self) {
+        println!(
+            "compile: results: {} with shared nodes, {} with 64 inputs and 64 outputs, \
+             {} with bytes behind the file, at most {} gates and {} work lines",
+            self.with_shared_nodes,
+            self.with_64_inputs_and_64_outputs,
+            self.with_bytes_behind,
+            self.most_gates,
+            self.most_work_lines
+        );
+        assert!(self.with_shared_nodes > 1_000, "too few shared nodes");
+        assert!(self.with_64_inputs_and_64_outputs > 200, "too few wide programs");
+        assert!(self.with_bytes_behind > 1_000, "too few long areas");
+        assert!(self.most_gates > 7_000, "no circuit with many gates");
+        assert!(self.most_work_lines > 1_000, "no circuit with many work lines");
+    }
+}
+
+#[test]
+fn random_and_damaged_cases() {
+    let mut random = Random::new(0x636f_6d70);
+    let mut tally = Tally::new("compile");
+    let mut seen = Seen::default();
+    for _ in 0..20_000 {
+        let case = random_case(&mut random);
+        let outcome = compare(&case);
+        tally.count(&outcome);
+        if let Ok(length) = outcome {
+            seen.count(&case, length);
+        }
+    }
+    tally.finish(20_000, &[1, 2, 3, 4, 5, 6, 7, 8, 9, 10, 11]);
+    seen.finish();
+}
+
+/// Mostly a good file; then mostly a list, a grant and an area that are enough.
+fn random_case(random: &mut Random) -> Case {
+    let file = match random.below(8) {
+        0..=1 => program::damaged(random),
+        2 => drawn::any(random).bytes(),
+        3 => drawn::large(random).bytes(),
+        _ => drawn::accepted(random).bytes(),
+    };
+    // Of a refused file, or a size that is too large, nothing is right and any will do.
+    let nodes = model::program::read(&file).map_or(3, |program| program.nodes.len());
+    let (work, needed) = needs(&file).unwrap_or((2, 68));
+    let entries = random_entries(random, nodes);
+    let grant = random_grant(random, work);
+    let length = random_length(random, needed);
+    Case { file, grant, sizes: list(random, entries), area: random.bytes(length) }
+}
+
+fn random_entries(random: &mut Random, nodes: usize) -> usize {
+    match random.below(24) {
+        0 => nodes - 1,
+        1 => random.below(nodes),
+        2 => 0,
+        3..=6 => nodes + 1,
+        7..=9 => nodes + random.within(2..=64),
+        10 => nodes.max(4_096),
+        _ => nodes,
+    }
+}
+
+fn random_grant(random: &mut Random, work: u64) -> u64 {
+    let any = random.number();
+    match random.below(24) {
+        0..=2 => work.saturating_sub(1),
+        3 => work / 2,
+        4 => 0,
+        5 => random.pick(&TOO_HIGH),
+        6 => any,
+        7..=10 => 1_024,
+        11..=13 => work + 1,
+        _ => work,
+    }
+}
+
+/// About as long as is needed, but no longer than an area may usefully be.
+fn random_length(random: &mut Random, needed: usize) -> usize {
+    let needed = needed.min(MOST_BYTES + 8);
+    match random.below(12) {
+        0..=4 => needed,
+        5..=6 => needed + 1,
+        7 => needed + random.within(2..=64),
+        8..=9 => needed - 1,
+        10 => random.below(needed),
+        _ => random.pick(&[0, 2, 22, NO_GATES - 1, NO_GATES]),
+    }
+}

@@ -1,0 +1,257 @@
+//! From a program file to the lines after a run, through the archive alone: compiled, read back and
+//! run, and held to what evaluation answers, after the shares of the first j outputs for every j.
+
+use agreement::drawn::{self, read, starts};
+use agreement::lent::lent;
+use agreement::program::Program;
+use agreement::random::Random;
+use agreement::{hex, limits, shaped};
+use model::circuit::{Circuit, Gate};
+use model::construct;
+
+/// Where a circuit file says how long its gates are, and where they start.
+const GATES_LENGTH: usize = 18;
+const GATES_START: usize = 28;
+const GATE_LENGTH: usize = 8;
+
+/// A program, the file that the archive compiled it to, and the circuit as it reads back.
+struct Compiled {
+    program: Program,
+    file: Vec<u8>,
+    circuit: Circuit,
+    /// How many gates the shares of the first j outputs have, for j from 0 to m.
+    shares: Vec<usize>,
+}
+
+impl Compiled {
+    fn describe(&self) -> String {
+        format!("program of {}", hex(&self.program.bytes()))
+    }
+
+    /// The file of these gates, from one number to another, under the same head.
+    fn part(&self, from: usize, to: usize) -> Vec<u8> {
+        let at = |gate: usize| GATES_START + GATE_LENGTH * gate;
+        let mut file = self.file[..GATES_START].to_vec();
+        let length = (GATE_LENGTH * (to - from)) as u32;
+        file[GATES_LENGTH..GATES_LENGTH + 4].copy_from_slice(&length.to_le_bytes());
+        file.extend(&self.file[at(from)..at(to)]);
+        file
+    }
+
+    fn inputs(&self) -> usize {
+        self.circuit.inputs
+    }
+
+    fn first_work_line(&self) -> usize {
+        self.circuit.inputs + self.circuit.outputs
+    }
+}
+
+/// Compiles with a grant and an area that are enough or more, and random content in both areas.
+fn compiled(random: &mut Random, program: Program) -> Compiled {
+    let nodes = read(&program).nodes;
+    let work = construct::most_work_lines(&read(&program));
+    let counts = program.outputs.iter().map(|i| construct::share_gate_count(&nodes, (*i).into()));
+    let mut shares = vec![0];
+    for count in counts {
+        shares.push(shares[shares.len() - 1] + count);
+    }
+    let needed = GATES_START + GATE_LENGTH * shares[shares.len() - 1];
+
+    let grant = random.pick(&[work, work, 1_024]) as u64;
+    let sizes: Vec<u16> = (0..nodes.len()).map(|_| random.number() as u16).collect();
+    let length = needed + random.pick(&[0, 0, 1, 64]);
+    let area = random.bytes(length);
+    let (file, _) = lent(&sizes, |sizes| {
+        let (length, mut area) =
+            lent(&area, |area| oracle::compile(&program.bytes(), grant, sizes, area));
+        area.truncate(length.expect("there is room for every gate and line"));
+        area
+    });
+    let circuit = model::circuit::read(&file).expect("what was compiled reads back");
+    assert_eq!(oracle::read_circuit(&file), Ok(shares[shares.len() - 1] as u64));
+    let compiled = Compiled { program, file, circuit, shares };
+    assert_eq!(compiled.file.len(), needed, "{}", compiled.describe());
+    assert_eq!(compiled.circuit.work, work, "{}", compiled.describe());
+    compiled
+}
+
+/// What the runs met.
+#[derive(Default)]
+struct Seen {
+    programs: u64,
+    shares: u64,
+    runs_from_zero: u64,
+    other_runs: u64,
+    /// How many values were 0, how many 1.
+    values: [u64; 2],
+    most_lines: usize,
+    most_gates: usize,
+    /// Shares with a gate on a work line, so that there was something to clean.
+    with_work_lines: u64,
+}
+
+impl Seen {
+    fn finish(&self, name: &str) {
+        println!("{name}: {} programs, {} shares", self.programs, self.shares);
+        println!(
+            "{name}: {} runs with the work lines zero, {} others; {} values 0, {} values 1",
+            self.runs_from_zero, self.other_runs, self.values[0], self.values[1]
+        );
+        println!(
+            "{name}: at most {} lines and {} gates; {} shares write work lines",
+            self.most_lines, self.most_gates, self.with_work_lines
+        );
+        assert!(self.values.iter().all(|count| *count > 0), "values of one kind only");
+        assert!(self.with_work_lines > 0, "no work line was written");
+    }
+}
+
+/// The lines after the archive has run a circuit file on them.
+fn run(file: &[u8], start: &[u8]) -> Vec<u8> {
+    let (outcome, after) = lent(start, |lines| oracle::run_forwards(file, lines));
+    assert_eq!(outcome, Ok(()), "run on {start:?} {}", hex(file));
+    after
+}
+
+/// The outputs' values on the input lines, as both evaluations answer them.
+fn values(compiled: &Compiled, start: &[u8]) -> Vec<u8> {
+    let file = compiled.program.bytes();
+    let inputs = &start[..compiled.inputs()];
+    let mut list = vec![0; compiled.program.nodes.len()];
+    (0..compiled.circuit.outputs as u64)
+        .map(|k| {
+            let expected = model::evaluate::evaluate(&file, &mut list, inputs, k);
+            let value = oracle::evaluate(&file, &mut list, inputs, k).expect("a good program");
+            assert_eq!(Ok(value), expected, "output {k}, {}", compiled.describe());
+            u8::from(value)
+        })
+        .collect()
+}
+
+/// What 01 says of the lines after the shares of the first j outputs: for every start the inputs,
+/// the work lines and the later targets are as they were, and where the work lines started at
+/// zero, each earlier target has its output's value in it.
+fn check_lines(compiled: &Compiled, j: usize, (start, after): (&[u8], &[u8]), values: &[u8]) {
+    let (inputs, work) = (compiled.inputs(), compiled.first_work_line());
+    let mut expected = start.to_vec();
+    if start[work..].contains(&1) {
+        expected[inputs..inputs + j].copy_from_slice(&after[inputs..inputs + j]);
+    } else {
+        for (k, value) in values[..j].iter().enumerate() {
+            expected[inputs + k] ^= value;
+        }
+    }
+    assert_eq!(after, expected, "{j} shares from {start:?}, {}", compiled.describe());
+}
+
+/// Runs from one start: the first j shares for every j, and each share from where the ones before
+/// left the lines; then the file itself, and back.
+fn check_start(seen: &mut Seen, compiled: &Compiled, start: &[u8]) {
+    let values = values(compiled, start);
+    let outputs = compiled.circuit.outputs;
+    let mut before = start.to_vec();
+    for j in 0..=outputs {
+        let after = run(&compiled.part(0, compiled.shares[j]), start);
+        check_lines(compiled, j, (start, &after), &values);
+        if j > 0 {
+            let share = compiled.part(compiled.shares[j - 1], compiled.shares[j]);
+            let expected = run(&share, &before);
+            assert_eq!(after, expected, "share {j} from {before:?}, {}", compiled.describe());
+        }
+        before = after;
+    }
+
+    assert_eq!(compiled.part(0, compiled.shares[outputs]), compiled.file, "the last j");
+    let (outcome, back) = lent(&before, |lines| oracle::run_backwards(&compiled.file, lines));
+    assert_eq!((outcome, &back[..]), (Ok(()), start), "backwards, {}", compiled.describe());
+
+    // The model runs the same file to the same lines, the targets of dirty starts included.
+    let mut expected = start.to_vec();
+    assert_eq!(model::run::forwards(&compiled.file, &mut expected), Ok(()));
+    assert_eq!(before, expected, "the archive, then the model, {}", compiled.describe());
+
+    let runs = outputs as u64 + 1;
+    if start[compiled.first_work_line()..].contains(&1) {
+        seen.other_runs += runs;
+    } else {
+        seen.runs_from_zero += runs;
+        for value in values {
+            seen.values[usize::from(value)] += 1;
+        }
+    }
+}
+
+/// A program from its file to the lines, from many starts.
+fn holds(random: &mut Random, seen: &mut Seen, program: Program) {
+    let compiled = compiled(random, program);
+    let circuit = &compiled.circuit;
+    seen.programs += 1;
+    seen.shares += circuit.outputs as u64;
+    seen.most_lines = seen.most_lines.max(circuit.lines());
+    seen.most_gates = seen.most_gates.max(circuit.gates.len());
+    let work = compiled.first_work_line();
+    let writes_work = |gate: &Gate| gate.target() >= work;
+    seen.with_work_lines += compiled
+        .shares
+        .windows(2)
+        .filter(|share| circuit.gates[share[0]..share[1]].iter().any(writes_work))
+        .count() as u64;
+    for start in starts(random, circuit) {
+        check_start(seen, &compiled, &start);
+    }
+}
+
+#[test]
+fn the_examples() {
+    let mut random = Random::new(0x6578_616d);
+    let mut seen = Seen::default();
+    holds(&mut random, &mut seen, shaped::whole_case());
+    holds(&mut random, &mut seen, shaped::nor());
+    holds(&mut random, &mut seen, shaped::and_of_three());
+    holds(&mut random, &mut seen, shaped::and_of_four());
+    holds(&mut random, &mut seen, shaped::xor_with_itself());
+    holds(&mut random, &mut seen, shaped::output_zero());
+    seen.finish("end to end, examples");
+}
+
+/// 01's words on the whole case: from inputs 1 1 and target 1 the target ends 0; with line 3
+/// starting at 1 it stays 1, and line 3 ends 1.
+#[test]
+fn the_whole_case_from_two_starts() {
+    let mut random = Random::new(0x7477_6f73);
+    let whole = compiled(&mut random, shaped::whole_case());
+    assert_eq!(run(&whole.file, &[1, 1, 1, 0, 0]), [1, 1, 0, 0, 0]);
+    assert_eq!(run(&whole.file, &[1, 1, 1, 1, 0]), [1, 1, 1, 1, 0]);
+}
+
+/// As wide, as long and as deep as a file can be: nobody can try all the starts.
+#[test]
+fn at_the_limits() {
+    let mut random = Random::new(0x7769_6465);
+    let mut seen = Seen::default();
+    holds(&mut random, &mut seen, limits::most_gates());
+    holds(&mut random, &mut seen, limits::most_outputs());
+    holds(&mut random, &mut seen, limits::ands(512, false));
+    holds(&mut random, &mut seen, limits::ands(512, true));
+    holds(&mut random, &mut seen, limits::most_lines());
+    holds(&mut random, &mut seen, limits::deepest());
+    holds(&mut random, &mut seen, limits::longest_file());
+    seen.finish("end to end, limits");
+    assert_eq!((seen.most_lines, seen.most_gates), (1_152, 8_000));
+}
+
+#[test]
+fn random_programs() {
+    let mut random = Random::new(0x656e_6432);
+    let mut seen = Seen::default();
+    for _ in 0..3_000 {
+        let program = drawn::accepted(&mut random);
+        holds(&mut random, &mut seen, program);
+    }
+    seen.finish("end to end");
+    assert!(seen.runs_from_zero > 100_000 && seen.other_runs > 50_000, "too few runs");
+    assert!(seen.values.iter().all(|count| *count > 20_000), "too few values of one kind");
+    assert!(seen.most_lines > 1_000 && seen.most_gates > 7_000, "no large circuit");
+    assert!(seen.with_work_lines > 10_000, "too few shares with work lines");
+}

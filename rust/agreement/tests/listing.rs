@@ -1,0 +1,119 @@
+//! The listing program's cases: the data files are what their names say, the text expected for them
+//! is the model's, and what the archive compiles gives the same text.
+
+use std::collections::BTreeSet;
+use std::fs;
+
+use agreement::listing_cases::{self, Case, GRANT, MOST_INPUT};
+use agreement::{hex, shaped};
+use model::circuit::Gate;
+use model::listing::listing;
+
+/// The six lines of the whole case, as 01 prints them.
+const WHOLE_CASE: &str = "lines 2 1 2 gates 5\nC 0 3\nC 1 4\nT 3 4 2\nC 1 4\nC 0 3\n";
+
+#[test]
+fn every_file_is_as_it_is_made() {
+    for (name, content) in listing_cases::files() {
+        let path = listing_cases::repository().join(&name);
+        let file = fs::read(&path).unwrap_or_else(|error| panic!("{}: {error}", path.display()));
+        let lengths = (file.len(), content.len());
+        assert!(file == content, "{}: not as it is made, {lengths:?} bytes", name.display());
+    }
+}
+
+/// No case is missing, and no file is there that is no case.
+#[test]
+fn the_data_folder_holds_the_cases_alone() {
+    let folder = listing_cases::repository().join("crates/listing_cases/data");
+    let found: BTreeSet<String> = fs::read_dir(&folder)
+        .unwrap_or_else(|error| panic!("{}: {error}", folder.display()))
+        .map(|entry| entry.expect("a folder that can be read").file_name())
+        .map(|name| name.into_string().expect("a name in letters"))
+        .collect();
+    let cases = listing_cases::all();
+    let names: BTreeSet<String> = cases.iter().map(|case| case.name.to_string()).collect();
+    assert_eq!(names.len(), cases.len(), "each name is given once");
+    assert_eq!(found, names, "the files, then the cases");
+}
+
+/// The first lines are written out beside the cases and come from no code.
+#[test]
+fn each_case_starts_as_01_says() {
+    let mut causes = BTreeSet::new();
+    let mut results = 0;
+    for case in listing_cases::all() {
+        let text = listing(&case.file, GRANT);
+        assert_eq!(text.lines().next(), Some(case.first_line), "{}", case.name);
+        assert!(text.ends_with('\n'), "{}: the last line ends", case.name);
+        match case.first_line.strip_prefix("refused ") {
+            Some(refusal) => {
+                assert_eq!(text.lines().count(), 1, "{}: a refusal is one line", case.name);
+                causes.insert(refusal.split(' ').next().expect("a number").to_string());
+            }
+            None => {
+                let gates = case.first_line.split(' ').next_back().expect("a number");
+                let gates: usize = gates.parse().expect("a number");
+                assert_eq!(text.lines().count(), 1 + gates, "{}: a line a gate", case.name);
+                results += 1;
+            }
+        }
+    }
+    println!("listing: {} cases, {results} of them results", listing_cases::all().len());
+    let expected = [1, 2, 3, 4, 5, 6, 8, 10, 11].map(|cause: u64| cause.to_string());
+    assert_eq!(causes, expected.into_iter().collect(), "the causes seen, then those wanted");
+}
+
+#[test]
+fn the_whole_case() {
+    assert_eq!(listing(&shaped::WHOLE_CASE, GRANT), WHOLE_CASE);
+    let folder = listing_cases::repository().join("crates/listing");
+    let stdin = fs::read(folder.join("stdin")).expect("the whole case as a file");
+    assert_eq!(stdin, shaped::WHOLE_CASE);
+    let stdout = fs::read_to_string(folder.join("stdout")).expect("its text as a file");
+    assert_eq!(stdout, WHOLE_CASE);
+}
+
+/// The gates of 01's examples, as the stdout of all cases holds them.
+#[test]
+fn the_other_examples() {
+    let stdout =
+        fs::read_to_string(listing_cases::repository().join("crates/listing_cases/stdout"))
+            .expect("the text of all cases as a file");
+    assert!(stdout.starts_with("refused 1 0\n"), "empty input comes first");
+    for text in [
+        WHOLE_CASE,
+        "lines 3 1 4 gates 9\nC 0 5\nC 1 6\nT 5 6 4\nC 2 7\nT 4 7 3\n\
+         C 2 7\nT 5 6 4\nC 1 6\nC 0 5\n",
+        "lines 1 1 0 gates 2\nC 0 1\nC 0 1\nlines 0 1 0 gates 0\nlines 0 1 0 gates 1\nN 0\n",
+    ] {
+        assert_eq!(stdout.matches(text).count(), 1, "{text}");
+    }
+}
+
+/// The text of what the archive compiles from a case.
+fn archive(case: &Case) -> String {
+    let file = &case.file[..case.file.len().min(MOST_INPUT)];
+    let (mut sizes, mut area) = ([0; 4_096], vec![0; 64_028]);
+    let length = match oracle::compile(file, GRANT, &mut sizes, &mut area) {
+        Ok(length) => length,
+        Err(refusal) => return format!("{refusal}\n"),
+    };
+    let circuit = model::circuit::read(&area[..length]).expect("what was compiled reads back");
+    let head = [circuit.inputs, circuit.outputs, circuit.work].map(|number| number.to_string());
+    let gates = circuit.gates.iter().map(|gate| match *gate {
+        Gate::Not(t) => format!("N {t}\n"),
+        Gate::Cnot(a, t) => format!("C {a} {t}\n"),
+        Gate::Toffoli(a, b, t) => format!("T {a} {b} {t}\n"),
+    });
+    let count = circuit.gates.len();
+    format!("lines {} gates {count}\n", head.join(" ")) + &gates.collect::<String>()
+}
+
+#[test]
+fn what_the_archive_compiles_is_listed_alike() {
+    for case in listing_cases::all() {
+        let expected = listing(&case.file, GRANT);
+        assert!(archive(&case) == expected, "{}, {}", case.name, hex(&case.file));
+    }
+}

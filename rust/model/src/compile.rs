@@ -1,0 +1,235 @@
+//! Compiling a program: causes 1 to 11.
+
+use crate::program::{self, Program};
+use crate::{circuit, construct, Refusal};
+
+const LARGEST_SIZE: usize = 16_384;
+const MOST_WORK_LINES: u64 = 1_024;
+const MOST_GATES: usize = 8_000;
+
+/// Writes the circuit file of a program and gives its length. Causes 1 to 7 leave both areas; from
+/// then on the start of `sizes` is filled. Cause 11 makes all of `area` zero; every other refusal
+/// leaves it.
+pub fn compile(
+    file: &[u8],
+    grant: u64,
+    sizes: &mut [u16],
+    area: &mut [u8],
+) -> Result<usize, Refusal> {
+    // 1 to 6
+    let program = program::read(file)?;
+
+    // 7: the size list is shorter than the node count
+    if sizes.len() < program.nodes.len() {
+        return Err(Refusal::of(7));
+    }
+    let unfolded = construct::sizes(&program.nodes);
+    for (entry, size) in sizes.iter_mut().zip(&unfolded) {
+        *entry = *size as u16;
+    }
+
+    // 8 to 10
+    check_limits(&program, &unfolded, grant)?;
+
+    // 11: too many gates, or the area is too short
+    let gates = gates_needed(&program);
+    if gates > MOST_GATES || area.len() < circuit::file_length(gates) {
+        area.fill(0);
+        return Err(Refusal::at(11, gates));
+    }
+
+    let written = circuit::write(&construct::circuit(&program));
+    area[..written.len()].copy_from_slice(&written);
+    Ok(written.len())
+}
+
+/// Causes 8 to 10.
+fn check_limits(program: &Program, unfolded: &[usize], grant: u64) -> Result<(), Refusal> {
+    // 8: an output that is too large, the lowest first
+    if let Some(k) = program.outputs.iter().position(|i| unfolded[*i] > LARGEST_SIZE) {
+        return Err(Refusal::at(8, k));
+    }
+
+    // 9: the grant
+    if grant > MOST_WORK_LINES {
+        return Err(Refusal::of(9));
+    }
+
+    // 10: more work lines than granted
+    let lines = construct::most_work_lines(program);
+    if lines as u64 > grant {
+        return Err(Refusal::at(10, lines));
+    }
+    Ok(())
+}
+
+fn gates_needed(program: &Program) -> usize {
+    program.outputs.iter().map(|i| construct::share_gate_count(&program.nodes, *i)).sum()
+}
+
+#[cfg(test)]
+mod tests {
+    use super::*;
+    use crate::circuit::{Circuit, Gate};
+
+    use Gate::{Cnot, Not, Toffoli};
+
+    const ZERO: [u16; 3] = [0, 0, 0];
+    const ONE: [u16; 3] = [1, 0, 0];
+
+    fn input(j: u16) -> [u16; 3] {
+        [2, j, 0]
+    }
+
+    fn not(a: u16) -> [u16; 3] {
+        [3, a, 0]
+    }
+
+    fn xor(a: u16, b: u16) -> [u16; 3] {
+        [4, a, b]
+    }
+
+    fn and(a: u16, b: u16) -> [u16; 3] {
+        [5, a, b]
+    }
+
+    /// The program file of these nodes: kind, a, b. A kind's high byte is the zero byte.
+    fn file(inputs: u16, nodes: &[[u16; 3]], outputs: &[u16]) -> Vec<u8> {
+        let head = [inputs, outputs.len() as u16];
+        let lengths = [4, 6 * nodes.len() as u32, 2 * outputs.len() as u32];
+        let mut file = vec![3, 0];
+        let mut start: u32 = 32;
+        for (tag, length) in (1_u16..).zip(lengths) {
+            file.extend(tag.to_le_bytes());
+            file.extend(start.to_le_bytes());
+            file.extend(length.to_le_bytes());
+            start += length;
+        }
+        let numbers = head.iter().chain(nodes.iter().flatten()).chain(outputs);
+        file.extend(numbers.flat_map(|number| number.to_le_bytes()));
+        file
+    }
+
+    fn whole_case() -> Vec<u8> {
+        file(2, &[input(0), input(1), and(0, 1)], &[2])
+    }
+
+    /// ZERO and 13 times XOR of the node before with itself, then NOT of it, and NOT of that.
+    fn chain() -> Vec<[u16; 3]> {
+        let mut nodes = vec![ZERO];
+        nodes.extend((0..13).map(|before| xor(before, before)));
+        nodes.extend([not(13), not(14)]);
+        nodes
+    }
+
+    /// The program compiles to this circuit and these sizes, and what is behind them stays.
+    fn gives(file: &[u8], sizes: &[u16], circuit: &Circuit) {
+        let written = circuit::write(circuit);
+        for behind in [0, 3] {
+            let mut list = vec![7; sizes.len() + behind];
+            let mut area = vec![9; written.len() + behind];
+            let grant = circuit.work as u64;
+            assert_eq!(compile(file, grant, &mut list, &mut area), Ok(written.len()));
+            assert_eq!(list, [sizes, &vec![7; behind]].concat());
+            assert_eq!(area, [&written[..], &vec![9; behind]].concat());
+        }
+    }
+
+    /// The refusal of a call with areas of these lengths, and whether the size list was filled and
+    /// the area cleared.
+    fn refused(file: &[u8], grant: u64, entries: usize, length: usize) -> (u64, u64, bool, bool) {
+        let (mut sizes, mut area) = (vec![0xffff; entries], vec![9; length]);
+        let refusal = compile(file, grant, &mut sizes, &mut area).unwrap_err();
+        let filled = sizes.iter().any(|size| *size != 0xffff);
+        let cleared = area.iter().all(|byte| *byte == 0);
+        assert!(cleared || area.iter().all(|byte| *byte == 9));
+        (refusal.number, refusal.place, filled, cleared)
+    }
+
+    #[test]
+    fn the_whole_case() {
+        let gates = vec![Cnot(0, 3), Cnot(1, 4), Toffoli(3, 4, 2), Cnot(1, 4), Cnot(0, 3)];
+        let circuit = Circuit { inputs: 2, outputs: 1, work: 2, gates };
+        gives(&whole_case(), &[1, 1, 3], &circuit);
+        assert_eq!(circuit::write(&circuit).len(), 68);
+        assert_eq!(refused(&whole_case(), 2, 3, 67), (11, 5, true, true));
+        assert_eq!(refused(&whole_case(), 1, 3, 68), (10, 2, true, false));
+    }
+
+    #[test]
+    fn nor_as_and_of_two_nots() {
+        let nor = file(2, &[input(0), input(1), not(0), not(1), and(2, 3)], &[4]);
+        let build = [Not(3), Cnot(0, 3), Not(4), Cnot(1, 4), Toffoli(3, 4, 2)];
+        let clean = [Cnot(1, 4), Not(4), Cnot(0, 3), Not(3)];
+        let gates = [&build[..], &clean].concat();
+        assert_eq!(gates.len(), 9);
+        gives(&nor, &[1, 1, 2, 2, 5], &Circuit { inputs: 2, outputs: 1, work: 2, gates });
+    }
+
+    #[test]
+    fn and_of_three_inputs() {
+        let three = file(3, &[input(0), input(1), and(0, 1), input(2), and(2, 3)], &[4]);
+        let build = [Cnot(0, 5), Cnot(1, 6), Toffoli(5, 6, 4), Cnot(2, 7), Toffoli(4, 7, 3)];
+        let clean = [Cnot(2, 7), Toffoli(5, 6, 4), Cnot(1, 6), Cnot(0, 5)];
+        let gates = [&build[..], &clean].concat();
+        gives(&three, &[1, 1, 3, 1, 5], &Circuit { inputs: 3, outputs: 1, work: 4, gates });
+        assert_eq!(refused(&three, 3, 5, 100), (10, 4, true, false));
+    }
+
+    #[test]
+    fn xor_with_itself_and_zero() {
+        let circuit = |inputs, gates: &[Gate]| {
+            let gates = gates.to_vec();
+            Circuit { inputs, outputs: 1, work: 0, gates }
+        };
+        let itself = file(1, &[input(0), xor(0, 0)], &[1]);
+        gives(&itself, &[1, 3], &circuit(1, &[Cnot(0, 1), Cnot(0, 1)]));
+        gives(&file(0, &[ZERO], &[0]), &[1], &circuit(0, &[]));
+        gives(&file(0, &[ONE], &[0]), &[1], &circuit(0, &[Not(0)]));
+    }
+
+    /// NOT of the node of size 16,383 is accepted, and NOT of that only where no output names it.
+    #[test]
+    fn the_largest_size() {
+        let mut sizes: Vec<u16> = (1..=14).map(|power| (1 << power) - 1).collect();
+        assert_eq!(sizes[13], 16_383);
+        sizes.extend([16_384, 16_385]);
+        let gates = vec![Not(0)];
+        let circuit = Circuit { inputs: 0, outputs: 1, work: 0, gates };
+        gives(&file(0, &chain(), &[14]), &sizes, &circuit);
+
+        let (mut list, mut area) = ([7; 17], [9; 99]);
+        let two_large = file(0, &chain(), &[14, 15, 13, 15]);
+        let refusal = compile(&two_large, 0, &mut list, &mut area);
+        assert_eq!(refusal, Err(Refusal { number: 8, place: 1 }));
+        assert_eq!((&list[..16], list[16], area), (&sizes[..], 7, [9; 99]));
+    }
+
+    #[test]
+    fn eight_thousand_gates_are_the_most() {
+        let mut nodes = vec![input(0)];
+        nodes.extend((0..12).map(|before| xor(before, before)));
+        nodes.extend([xor(12, 11), xor(13, 10), xor(14, 9), xor(15, 8), xor(16, 6)]);
+        let (mut sizes, mut area) = ([0; 18], vec![9; 64_029]);
+        let most = file(1, &nodes, &[17]);
+        assert_eq!(compile(&most, 0, &mut sizes, &mut area), Ok(64_028));
+        assert_eq!(area[64_028], 9);
+        assert_eq!(refused(&most, 0, 18, 64_027), (11, 8_000, true, true));
+        assert_eq!(refused(&file(1, &nodes, &[17, 0]), 0, 18, 70_000), (11, 8_001, true, true));
+    }
+
+    #[test]
+    fn the_first_cause_counts() {
+        assert_eq!(refused(&[], u64::MAX, 1, 1), (1, 0, false, false));
+        assert_eq!(refused(&whole_case()[..55], u64::MAX, 2, 1), (2, 0, false, false));
+        let bad_output = file(2, &[input(0), input(1), and(0, 1)], &[2, 3]);
+        assert_eq!(refused(&bad_output, u64::MAX, 2, 1), (6, 1, false, false));
+        let large = file(0, &chain(), &[15]);
+        assert_eq!(refused(&large, 1_025, 15, 1), (7, 0, false, false));
+        assert_eq!(refused(&large, 1_025, 16, 1), (8, 0, true, false));
+        assert_eq!(refused(&whole_case(), 1_025, 3, 1), (9, 0, true, false));
+        assert_eq!(refused(&whole_case(), u64::MAX, 3, 1), (9, 0, true, false));
+        assert_eq!(refused(&whole_case(), 0, 3, 1), (10, 2, true, false));
+        assert_eq!(refused(&whole_case(), 1_024, 3, 1), (11, 5, true, true));
+    }
+}
