@@ -122,9 +122,11 @@ module _ {nodes : List ℕ} {i t : ℕ} {p : Progress} {l : List ℕ} (m : Room 
     second-line : p .free + (1 + held (treeIn nodes a) + (1 + most (treeIn nodes b))) ≤ 65535
     second-line = omega (arith, m .lines, ap most (k .is), most-and-second (treeIn nodes a) (treeIn nodes b))
 
+    -- there is a line for the first
     pub line-first : p .free < 65535
     line-first = omega (arith, first-line)
 
+    -- once it is taken
     module _ {f′ : ℕ} (u : f′ ≡ p .free + 1) where
       -- there is room for the first on any line that is taken
       pub room-and-first : {t′ : ℕ} → t′ < f′ → Room nodes a t′ (record { gates = p .gates; free = f′ }) l
@@ -135,9 +137,11 @@ module _ {nodes : List ℕ} {i t : ℕ} {p : Progress} {l : List ℕ} (m : Room 
           (omega (arith, ap most (k .is), most-and-first (treeIn nodes a) (treeIn nodes b)))
 
       module _ {t₁ : ℕ} {q : Progress} {l₁ : List ℕ} (v : Built (treeIn nodes a) t₁ (record { gates = p .gates; free = f′ }) q l l₁) where
+        -- there is a line for the second
         pub line-second : q .free < 65535
         line-second = omega (arith, second-line, v .free-to)
 
+        -- once it is taken too
         module _ {g′ : ℕ} (u′ : g′ ≡ q .free + 1) where
           -- there is room for the second on any line that is taken
           pub room-and-second : {t′ : ℕ} → t′ < g′ → length l₁ ≡ length l → Room nodes b t′ (record { gates = q .gates; free = g′ }) l₁
@@ -147,6 +151,7 @@ module _ {nodes : List ℕ} {i t : ℕ} {p : Progress} {l : List ℕ} (m : Room 
               (omega (arith, ap gateCount (k .is), v .stored .count-to, build-length (treeIn nodes a) t₁ f′))
               (omega (arith, ap most (k .is), most-and-second (treeIn nodes a) (treeIn nodes b), v .free-to))
 
+          -- there is room for the gate that joins them
           pub room-toffoli : {t₂ : ℕ} {r : Progress} {l₂ : List ℕ} → Built (treeIn nodes b) t₂ (record { gates = q .gates; free = g′ }) r l₁ l₂ → length l₂ ≡ length l
               → fileLength (r .gates + 1) ≤ length l₂
           unfolding gateCount

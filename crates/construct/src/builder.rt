@@ -29,7 +29,7 @@ fn append(area: &mut [u8], p: Progress, gate: Gate) -> Progress
     }
 }
 
-// Takes the lowest free line; the lowest that is free then.
+// Takes the lowest free line; the lowest that is free after it.
 fn take_line(free: usize) -> usize
     requires { ⌜ free < 65535 ⌝ }
     ensures { λ r. ⌜ r ≡ free + 1 ⌝ }
@@ -70,8 +70,9 @@ pub fn build(
         Node::And(a, b) => {
             let first = free as u16;
             let q = build(nodes, a as usize, first, gates, take_line(free), area);
-            let second = q.free as u16;
-            let r = build(nodes, b as usize, second, q.gates, take_line(q.free), area);
+            let next = q.free;
+            let second = next as u16;
+            let r = build(nodes, b as usize, second, q.gates, take_line(next), area);
             append(
                 area,
                 r,

@@ -1,4 +1,4 @@
-// Lists the circuit of each program file of data/, in the order of main.
+// Lists the circuit of each program file of data/, group by group.
 
 // Lists one program file.
 fn list_file(path: &[u8]) {
@@ -15,7 +15,8 @@ fn list_file(path: &[u8]) {
     io::write_all(1, &out[..length]);
 }
 
-fn main() {
+// Files that are no program files.
+fn refused_by_the_reader() {
     list_file(b"empty");
     list_file(b"table_cut_short");
     list_file(b"wrong_tag");
@@ -24,6 +25,10 @@ fn main() {
     list_file(b"inputs_65");
     list_file(b"bad_node");
     list_file(b"bad_output");
+}
+
+// The examples of document 01, and a few more small ones.
+fn examples() {
     list_file(b"whole_case");
     list_file(b"nor");
     list_file(b"and_of_three");
@@ -32,10 +37,18 @@ fn main() {
     list_file(b"zero");
     list_file(b"one");
     list_file(b"three_outputs");
+}
+
+// Outputs about the largest unfolded size.
+fn sizes() {
     list_file(b"size_16383");
     list_file(b"size_16384");
     list_file(b"size_16385");
     list_file(b"size_16385_at_2");
+}
+
+// Programs at the limits of lines, gates, inputs, outputs and nodes.
+fn limits() {
     list_file(b"work_1024");
     list_file(b"work_1026");
     list_file(b"lines_1152");
@@ -44,8 +57,20 @@ fn main() {
     list_file(b"gates_524352");
     list_file(b"outputs_64");
     list_file(b"longest_file");
+}
+
+// Inputs about the number of bytes that are read.
+fn long_inputs() {
     list_file(b"valid_then_zeros");
     list_file(b"bytes_32768");
     list_file(b"bytes_32769");
     list_file(b"fitting_32769");
+}
+
+fn main() {
+    refused_by_the_reader();
+    examples();
+    sizes();
+    limits();
+    long_inputs();
 }

@@ -137,28 +137,28 @@ module _ (t : ℕ) where
 
   cast-second : build-lts.Need-cast-second (claims t) (build-at t) build.Post
   cast-second c =
-      let u = c .before .before .before .before .before .take-line .ensures in
-      let v = c .before .before .before .build4 .ensures in
-      omega (arith, line-second (c .before .before .before .before .before .before .before .before .before .before .before .before .pre .1) (as-and (c .before .before .before .before .before .before .before)) u v, u, v .free-to)
+      let u = c .before .before .before .before .take-line .ensures in
+      let v = c .before .before .build4 .ensures in
+      omega (arith, line-second (c .before .before .before .before .before .before .before .before .before .before .before .pre .1) (as-and (c .before .before .before .before .before .before)) u v, u, v .free-to)
 
   cast-build-5 : build-lts.Need-cast-build-5 (claims t) (build-at t) build.Post
   cast-build-5 c = search needs
 
   take-line-requires-2 : build-lts.Need-take-line-requires-2 (claims t) (build-at t) build.Post
-  take-line-requires-2 c κs = line-second (c .before .before .before .before .before .before .before .before .before .before .before .before .pre .1) (as-and (c .before .before .before .before .before .before .before)) (c .before .before .before .before .before .take-line .ensures) (c .before .before .before .build4 .ensures)
+  take-line-requires-2 c κs = line-second (c .before .before .before .before .before .before .before .before .before .before .before .pre .1) (as-and (c .before .before .before .before .before .before)) (c .before .before .before .before .take-line .ensures) (c .before .before .build4 .ensures)
 
   build-requires-5 : build-lts.Need-build-requires-5 (claims t) (build-at t) build.Post
   build-requires-5 c κs =
-      let k = as-and (c .before .before .before .before .before .before .before .before .before) in
-      let u = c .before .before .before .before .before .before .before .take-line .ensures in
-      let v = c .before .before .before .before .before .build4 .ensures in
+      let k = as-and (c .before .before .before .before .before .before .before .before) in
+      let u = c .before .before .before .before .before .before .take-line .ensures in
+      let v = c .before .before .before .before .build4 .ensures in
       let u′ = c .before .take-line2 .ensures in (
-        omega (arith, k .second .low, c .before .before .before .before .before .before .before .before .before .before .before .before .before .before .pre .0),
-        room-and-second (c .before .before .before .before .before .before .before .before .before .before .before .before .before .before .pre .1) k u v u′ (omega (arith, u, v .free-to, u′)) (c .before .before .before .before .before .build4 .kept .1 .1 .1 .1 .1 .0),
+        omega (arith, k .second .low, c .before .before .before .before .before .before .before .before .before .before .before .before .before .pre .0),
+        room-and-second (c .before .before .before .before .before .before .before .before .before .before .before .before .before .pre .1) k u v u′ (omega (arith, u, v .free-to, u′)) (c .before .before .before .before .build4 .kept .1 .1 .1 .1 .1 .0),
       )
 
   append-requires-4 : build-lts.Need-append-requires-4 (claims t) (build-at t) build.Post
-  append-requires-4 c κs = room-toffoli (c .before .before .before .before .before .before .before .before .before .before .before .before .before .before .before .before .before .before .pre .1) (as-and (c .before .before .before .before .before .before .before .before .before .before .before .before .before)) (c .before .before .before .before .before .before .before .before .before .before .before .take-line .ensures) (c .before .before .before .before .before .before .before .before .before .build4 .ensures) (c .before .before .before .before .before .take-line2 .ensures) (c .before .before .before .build5 .ensures) (c .before .before .before .build5 .kept .1 .1 .1 .1 .1 .0 ∙ c .before .before .before .before .before .before .before .before .before .build4 .kept .1 .1 .1 .1 .1 .0)
+  append-requires-4 c κs = room-toffoli (c .before .before .before .before .before .before .before .before .before .before .before .before .before .before .before .before .before .pre .1) (as-and (c .before .before .before .before .before .before .before .before .before .before .before .before)) (c .before .before .before .before .before .before .before .before .before .before .take-line .ensures) (c .before .before .before .before .before .before .before .before .build4 .ensures) (c .before .before .before .before .before .take-line2 .ensures) (c .before .before .before .build5 .ensures) (c .before .before .before .build5 .kept .1 .1 .1 .1 .1 .0 ∙ c .before .before .before .before .before .before .before .before .build4 .kept .1 .1 .1 .1 .1 .0)
 
   returns : build-lts.Need-returns (claims t) (build-at t) build.Post
   returns c = rw (as-zero c) (built-zero _ _ _)
@@ -191,7 +191,7 @@ module _ (t : ℕ) where
   same-length-5 c = search needs
 
   returns-6 : build-lts.Need-returns-6 (claims t) (build-at t) build.Post
-  returns-6 c = rw (as-and (c .before .before .before .before .before .before .before .before .before .before .before .before .before .before .before .before) .is) (built-and (c .before .before .before .before .before .before .before .before .before .before .before .before .before .before .take-line .ensures) (c .before .before .before .before .before .before .before .before .before .before .before .before .build4 .ensures) (c .before .before .before .before .before .before .before .before .take-line2 .ensures) (c .before .before .before .before .before .before .build5 .ensures) (c .before .before .append4 .ensures))
+  returns-6 c = rw (as-and (c .before .before .before .before .before .before .before .before .before .before .before .before .before .before .before) .is) (built-and (c .before .before .before .before .before .before .before .before .before .before .before .before .before .take-line .ensures) (c .before .before .before .before .before .before .before .before .before .before .before .build4 .ensures) (c .before .before .before .before .before .before .before .before .take-line2 .ensures) (c .before .before .before .before .before .before .build5 .ensures) (c .before .before .append4 .ensures))
 
 pub +build-spec : {M : Type 1} → statement M
 +build-spec =
