@@ -1,7 +1,5 @@
 pub mod AcceptedLaws
 pub mod FileLaws
+pub mod GateBodyLaws
 pub mod ReadingLaws
-pub mod RunLaws
-pub mod UndoLaws
-pub mod UndoneLaws
 pub mod WriterLaws

@@ -7,6 +7,7 @@ use mathlib.Core.List.{List, [], _∷_, _++_, append-nil}
 use lib.ListN.{length, set, drop, replicate, length-append, length-set, drop-of-length-le}
 use lib.Seq.{sets, length-sets, sets-eq}
 use borrow.Author.Fill.{fill-none, fill-more}
+use Rattle.wire.specs.Answers.{result}
 use Rattle.wire.specs.Bytes.{bytes16}
 use Rattle.wire.specs.Contents.{tableLength, contentsBytes, total, Writable}
 use Rattle.wire.proofs.ListLaws.{sets-then}
@@ -16,7 +17,7 @@ use Rattle.gate.specs.GateBytes.{gateBytes, gatesBytes}
 use Rattle.gate.proofs.ByteLaws.{gates-length, gates-append}
 use Rattle.circuit.specs.declared.reader.CircuitHead.{CircuitHead}
 use Rattle.circuit.specs.Circuits.{Circuit, headOf}
-use Rattle.circuit.specs.Format.{tags, headLength, firstGate, fileLength, headBytes, openingBytes, circuitFile, putGates, Small}
+use Rattle.circuit.specs.Format.{tags, headLength, firstGate, fileLength, headBytes, openingBytes, circuitFile, putGates, areaAfter, Small}
 
 -- the lengths of the two bodies
 abbrev lengths : CircuitHead → List ℕ
@@ -83,7 +84,7 @@ pub file-written : (area : List ℕ) (c : Circuit) {area₁ area₂ : List ℕ}
     → fileLength (length (c .gates)) ≤ length area
     → area₁ ≡ sets area 0 (openingBytes (headOf c))
     → area₂ ≡ putGates area₁ 0 (c .gates)
-    → area₂ ≡ circuitFile c ++ drop (length (circuitFile c)) area
+    → area₂ ≡ areaAfter (result c) area
 unfolding putGates circuitFile
 file-written area c room e₁ e₂ =
     e₂

@@ -2,6 +2,4 @@ pub mod Circuits
 pub mod Format
 pub mod Layout
 pub mod Reading
-pub mod RunCircuit
 pub mod Theorems
-pub mod UndoCircuit

@@ -13,9 +13,9 @@ use Rattle.gate.specs.declared.gates.Gate.{Gate}
 use Rattle.gate.specs.Running.{run}
 use Rattle.circuit.specs.Circuits.{Circuit, lineCount}
 use Rattle.circuit.specs.Reading.{readCircuit}
-use Rattle.circuit.specs.RunCircuit.{runForwards}
 use Rattle.circuit.proofs.AcceptedLaws.{has-lines}
 use Rattle.circuit.proofs.FileLaws.{reads-back}
+use Rattle.run.specs.RunCircuit.{runForwards}
 use Rattle.program.specs.Exprs.{Expr, value}
 use Rattle.program.specs.Programs.{Program, headOf, outputValue}
 use Rattle.program.specs.Reading.{programOf}

@@ -10,7 +10,7 @@ use Rattle.gate.specs.Running.{run}
 use Rattle.circuit.specs.declared.reader.CircuitHead.{CircuitHead}
 use Rattle.circuit.specs.Circuits.{Circuit, headOf, headLines}
 use Rattle.circuit.specs.Format.{fileLength}
-use Rattle.circuit.specs.RunCircuit.{runForwards, linesAfter, done}
+use Rattle.run.specs.RunCircuit.{runForwards, linesAfter, done}
 use Rattle.program.specs.Programs.{Program, outputValue}
 use Rattle.construct.specs.Theorems.{Start, After}
 use Rattle.compile.specs.Compiling.{programCircuit, compileOf}

@@ -10,7 +10,7 @@ use Rattle.circuit.specs.declared.reader.CircuitHead.{CircuitHead}
 use Rattle.circuit.specs.Circuits.{Circuit, lineCount, headOf}
 use Rattle.circuit.specs.Format.{fileLength}
 use Rattle.circuit.specs.Reading.{readCircuit}
-use Rattle.circuit.specs.RunCircuit.{runForwards}
+use Rattle.run.specs.RunCircuit.{runForwards}
 use Rattle.program.specs.Programs.{Program, outputValue}
 use Rattle.program.specs.Reading.{readProgram}
 use Rattle.evaluate.specs.Evaluating.{evaluateOf}

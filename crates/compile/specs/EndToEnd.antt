@@ -6,7 +6,7 @@ use lib.ListN.{take}
 use Rattle.wire.specs.Answers.{Answer, result, andThen}
 use Rattle.circuit.specs.declared.reader.CircuitHead.{CircuitHead}
 use Rattle.circuit.specs.Circuits.{headLines}
-use Rattle.circuit.specs.RunCircuit.{runForwards}
+use Rattle.run.specs.RunCircuit.{runForwards}
 use Rattle.program.specs.Programs.{Program, outputValue}
 use Rattle.program.specs.Reading.{readProgram}
 use Rattle.construct.specs.Theorems.{Start, After}

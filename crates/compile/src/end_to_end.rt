@@ -3,11 +3,11 @@
 use crate::Compiled;
 use crate::compile;
 use circuit::layout::FIRST_GATE;
-use circuit::runner::Ran;
-use circuit::runner::run_forwards;
+use run::Ran;
+use run::run_forwards;
 use wire::refusals::Refusal;
 ghost use mathlib.Core.Path.{_≡_};
-ghost use Rattle.circuit.specs.RunCircuit.{linesAfter, ran, done};
+ghost use Rattle.run.specs.RunCircuit.{linesAfter, ran, done};
 ghost use Rattle.compile.specs.Compiling.{compileOf};
 ghost use Rattle.compile.specs.EndToEnd.{compileAndRun, Ends};
 

@@ -80,3 +80,12 @@ without-few out [] = omega arith
 without-few out (g ∷ gs) =
     let few : length (without out gs) ≤ length gs = without-few out gs in
     by-test (out (target g)) (λ e. rw e (omega arith)) (λ e. rw e (omega arith))
+
+-- a gate that is left out, and one that is kept
+pub one-out : (out : ℕ → Bool) (g : Gate) → out (target g) ≡ true → without out (g ∷ []) ≡ []
+unfolding without
+one-out out g e = rw e refl
+
+pub one-kept : (out : ℕ → Bool) (g : Gate) → out (target g) ≡ false → without out (g ∷ []) ≡ g ∷ []
+unfolding without
+one-kept out g e = rw e refl

@@ -5,8 +5,8 @@ use borrow.Author.Needs.{needs}
 use Rattle.wire.proofs.AnswerLaws.{came}
 use Rattle.circuit.specs.declared.reader.CircuitHead.{CircuitHead}
 use Rattle.circuit.specs.Circuits.{headOf}
-use Rattle.circuit.specs.UndoCircuit.{undoFile, undone}
-use Rattle.circuit.proofs.UndoneLaws.{undid, undone-few}
+use Rattle.undo.specs.UndoCircuit.{undoFile, undone}
+use Rattle.undo.proofs.UndoneLaws.{undid, undone-few}
 use Rattle.oracle.proofs.ExportLaws.{counted, fileBytes, bytes-written}
 use Rattle.oracle.proofs.oracle_undo.Statement.{statement}
 use Rattle.oracle.proofs.oracle_undo.Tie as tie

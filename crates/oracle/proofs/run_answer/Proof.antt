@@ -2,8 +2,8 @@ use borrow.Author.Needs.{needs}
 use Rattle.oracle.proofs.run_answer.Statement.{statement}
 use Rattle.oracle.proofs.run_answer.Tie as tie
 use mathlib.Core.Path.{sym, ap, _∙_}
-use Rattle.circuit.specs.declared.runner.Ran.{Ran}
-use Rattle.circuit.specs.RunCircuit.{ran}
+use Rattle.run.specs.declared.Ran.{Ran}
+use Rattle.run.specs.RunCircuit.{ran}
 use Rattle.oracle.specs.Exported.{exported}
 
 enum-told : tie.Need-enum-told

@@ -6,7 +6,7 @@ use lib.ListN.{take}
 use lib.Seq.{length-take-le}
 use borrow.Author.Needs.{needs}
 use Rattle.wire.specs.Answers.{result}
-use Rattle.circuit.specs.RunCircuit.{ran, runForwards, linesAfter, done}
+use Rattle.run.specs.RunCircuit.{ran, runForwards, linesAfter, done}
 use Rattle.compile.specs.Compiling.{compiled, compileOf}
 use Rattle.compile.specs.Demand.{Demand3}
 use Rattle.compile.proofs.RunLaws.{compile-refused, gates-few, file-inside, compiled-run}
@@ -14,7 +14,7 @@ use Rattle.compile.proofs.end_to_end.compile_and_run.Statement.{stateme
 use Rattle.compile.proofs.end_to_end.compile_and_run.Tie as tie
 use Rattle.compile.proofs.end_to_end.compile_and_run.Reads as reads
 use Rattle.compile.proofs.end_to_end.compile_and_run.Lts as lts
-use Rattle.circuit.proofs.runner.run_forwards.Reads as run-forwards-reads
+use Rattle.run.proofs.run_forwards.Reads as run-forwards-reads
 use Rattle.compile.proofs.compile.Reads as compile-reads
 use Rattle.compile.proofs.end_to_end.refused.Reads as refused-reads
 

@@ -4,7 +4,7 @@ use mathlib.Core.Path.{_≡_, sym, _∙_}
 use lib.ListN.{length, getD}
 use borrow.Author.Needs.{needs}
 use Rattle.gate.specs.declared.gates.Gate.the-variants.{Not}
-use Rattle.circuit.proofs.RunLaws.{gates-count, gates-at}
+use Rattle.circuit.proofs.GateBodyLaws.{gates-count, gates-at}
 use Rattle.circuit.specs.Circuits.{gatesIn}
 use Rattle.text.specs.Lines.{gateLine}
 use Rattle.text.proofs.PutLaws.{EachPut, each-start, each-room, each-next, each-all, put-length}

@@ -1,0 +1,87 @@
+use borrow.Author.Needs.{needs}
+use Rattle.run.proofs.run_backwards.Statement.{statement}
+use Rattle.run.proofs.run_backwards.Tie as tie
+use Rattle.run.proofs.run_backwards.Reads as reads
+use Rattle.run.proofs.run_backwards.Lts as lts
+use Rattle.circuit.proofs.reader.gate_body.Reads as gate-body-reads
+use Rattle.circuit.proofs.reader.read_with_lines.Reads as read-with-lines-reads
+use Rattle.run.proofs.apply_all_back.Reads as apply-all-back-reads
+use Rattle.run.proofs.refused.Reads as refused-reads
+use Prim.Native.Nat.{ℕ}
+use mathlib.Core.Path.{sym, ap, _∙_}
+use mathlib.Core.List.{List}
+use Rattle.wire.proofs.AnswerLaws.{Came, came, came-refused}
+use Rattle.gate.specs.Running.{runBack}
+use Rattle.circuit.specs.Circuits.{headOf, gatesIn}
+use Rattle.circuit.specs.Reading.{readWithLines, circuitRead}
+use Rattle.run.specs.RunCircuit.{runBackwards, ran}
+use Rattle.circuit.proofs.AcceptedLaws.{lines-laid}
+use Rattle.run.proofs.RunLaws.{run-refused, run-done, runnable}
+
+abbrev claims : lts.Claims
+claims = (
+  read-with-lines-reads.Asked,
+  read-with-lines-reads.Learnt,
+  refused-reads.Asked,
+  refused-reads.Learnt,
+  gate-body-reads.Asked,
+  gate-body-reads.Learnt,
+  apply-all-back-reads.Asked,
+  apply-all-back-reads.Learnt,
+)
+
+-- the reader answered Good
+good : (c : lts.After-enum-told claims reads.Pre reads.Post) → Came headOf (readWithLines (c .before .before .before .before .before .before .args .file .now) (c .before .before .before .before .before .before .args .lines .now)) (c .enum-told .given .0 .0)
+good c = came headOf (readWithLines (c .before .before .before .before .before .before .args .file .now) (c .before .before .before .before .before .before .args .lines .now)) _ (sym (ap circuitRead (c .enum-told .given .1)) ∙ c .before .before .read-with-lines .ensures)
+
+read-with-lines-requires : tie.Need-read-with-lines-requires
+read-with-lines-requires c κs = search needs
+
+enum-told : tie.Need-enum-told
+enum-told c = search needs
+
+enum-told-2 : tie.Need-enum-told-2
+enum-told-2 c = search needs
+
+refused-requires : tie.Need-refused-requires
+refused-requires c κs = search needs
+
+same-length : tie.Need-same-length
+same-length c = search needs
+
+returns : tie.Need-returns
+unfolding runBackwards
+returns c = let a = c .before .before .before .before .before .before .before .args in
+    let e = c .before .enum-told2 .given .1 in
+    let o = run-refused (a .file .now) (a .lines .now) runBack _ _ (came-refused headOf (readWithLines (a .file .now) (a .lines .now)) _ _ (sym (ap circuitRead e) ∙ c .before .before .before .read-with-lines .ensures)) in
+    (ap ran (c .refused .ensures _ e) ∙ o .answer, o .lines-are)
+
+gate-body-requires : tie.Need-gate-body-requires
+gate-body-requires c κs = lines-laid (c .before .before .before .before .before .before .args .file .now) (c .before .before .before .before .before .before .args .lines .now) (good c .from) (good c .was)
+
+apply-all-back-requires : tie.Need-apply-all-back-requires
+apply-all-back-requires c κs = rw (c .before .gate-body .ensures) (runnable (c .before .before .before .before .before .before .before .before .args .file .now) (c .before .before .before .before .before .before .before .before .args .lines .now) (good (c .before .before) .from) (good (c .before .before) .was))
+
+same-length-2 : tie.Need-same-length-2
+same-length-2 c = search needs
+
+returns-2 : tie.Need-returns-2
+unfolding runBackwards
+returns-2 c = let a = c .before .before .before .before .before .before .before .before .before .before .before .args in
+    let o = run-done (a .file .now) (a .lines .now) runBack (good (c .before .before .before .before .before) .from) (good (c .before .before .before .before .before) .was) in
+    (o .answer, c .before .before .apply-all-back .ensures ∙ ap (λ (b : List ℕ). runBack (gatesIn b) (a .lines .now)) (c .before .before .before .before .gate-body .ensures) ∙ o .lines-are)
+
+pub run-backwards-spec : {M : Type 1} → statement M
+run-backwards-spec =
+    tie.close
+    (tie.spec
+    read-with-lines-requires
+    enum-told
+    enum-told-2
+    refused-requires
+    same-length
+    returns
+    gate-body-requires
+    apply-all-back-requires
+    same-length-2
+    returns-2)

@@ -1,0 +1,2 @@
+pub mod RunCircuit
+pub mod Theorems
