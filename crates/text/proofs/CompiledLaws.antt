@@ -1,6 +1,6 @@
 -- Laws of listing what the service compile answers with the size list and the area that are lent to it. Assumes nothing.
 use Prim.Native.Nat.{ℕ, _≤_}
-use mathlib.Core.Path.{_≡_, sym, ap, _∙_}
+use mathlib.Core.Path.{_≡_, sym, ap, subst, _∙_}
 use mathlib.Core.List.{List}
 use lib.ListN.{length, take}
 use Rattle.io.specs.Counts.{Counts}
@@ -40,6 +40,10 @@ module _ (f : List ℕ) (grant : ℕ) (sizes area₀ : List ℕ) where
       pub lists : take r new ≡ listing x
       unfolding compileOf
       lists = put-whole (can-list .room) p ∙ listed-is x legal-result area₀ answer area a s
+
+      pub lists-put : Put (listing x) 0 r buffer new
+      unfolding compileOf
+      lists-put = subst (λ (t : List ℕ). Put t 0 r buffer new) (listed-is x legal-result area₀ answer area a s) p
 
       pub lists-counts : Counts r new
       lists-counts = put-counts (can-list .room) p

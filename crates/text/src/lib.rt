@@ -49,10 +49,11 @@ fn put_listing(out: &mut [u8], answer: Compiled, area: &[u8]) -> usize
 }
 
 // Compiles a program file with this grant and puts the listing of the answer at the start of the
-// buffer; how many bytes the listing takes.
+// buffer, whose other bytes stay as they were; how many bytes the listing takes.
 pub fn list(input: &[u8], grant: u64, out: &mut [u8; LISTING_LENGTH]) -> usize
     ensures { λ r. ⌜ Counts r (now (out .exit)) ⌝ }
     ensures { λ r. ⌜ take r (now (out .exit)) ≡ listing (compileFile (now (input .entry)) grant 4096 64028) ⌝ }
+    ensures { λ r. ⌜ Put (listing (compileFile (now (input .entry)) grant 4096 64028)) 0 r (now (out .entry)) (now (out .exit)) ⌝ }
 {
     let mut sizes = [0u16; SIZE_ENTRIES];
     let mut area = [0u8; AREA_LENGTH];
