@@ -19,8 +19,8 @@ use Rattle.program.specs.Nodes.{operandsFit, nodeAt, nodeFits}
 use Rattle.program.specs.Programs.{Program, outputTree}
 use Rattle.program.specs.Reading.{lengthsFit, rangesFit, outputFits, programOf, readBodies, readProgram}
 use Rattle.program.specs.Trees.{treeOf, treesFrom, trees}
-use Rattle.construct.specs.Construction.{held, most, second, build, share, shares, circuit, linesNeeded}
-use Rattle.construct.specs.Counting.{gatesShown}
+use Rattle.construction.specs.Construction.{held, most, second, build, share, shares, circuit, linesNeeded}
+use Rattle.construction.specs.Counting.{gatesShown}
 use Rattle.compile.specs.Compiling.{outputTrees, programCircuit, compileProgram, readWithSizes, compileFile, Compiling, compileOf}
 use Rattle.sizing.specs.Sizing.{shown, nodeSizes}
 

@@ -18,7 +18,7 @@ use Rattle.circuit.proofs.WriterLaws.{file-length}
 use Rattle.program.specs.Programs.{Program}
 use Rattle.program.specs.Reading.{programOf, readProgram}
 use Rattle.program.proofs.AcceptedLaws as program
-use Rattle.construct.proofs.RestoreLaws.{circuit-formed}
+use Rattle.construction.proofs.RestoreLaws.{circuit-formed}
 use Rattle.compile.specs.Compiling.{outputTrees, programCircuit, compileProgram, readWithSizes, compileFile, compileOf}
 use Rattle.compile.specs.Demand.{fileWritten}
 use Rattle.compile.proofs.OutputLaws.{trees-length, trees-inputs}

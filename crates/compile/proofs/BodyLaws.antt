@@ -18,12 +18,13 @@ use Rattle.program.specs.Reading.{inputsOf, outputAt, programOf}
 use Rattle.program.specs.Trees.{trees, TableOk}
 use Rattle.program.proofs.AcceptedLaws.{Accepted, same-nodes, outputs-length, output-is, inputs-is, table-ok}
 use Rattle.program.proofs.ReadingLaws.{nodes-counted, outputs-counted}
+use Rattle.construction.specs.Construction.{circuit, linesNeeded}
+use Rattle.construction.specs.Counting.{sharesCount, gatesShown}
+use Rattle.construction.proofs.CountLaws.{circuit-length}
 use Rattle.construct.specs.declared.counter.Needs.{Needs}
-use Rattle.construct.specs.Construction.{circuit, linesNeeded}
-use Rattle.construct.specs.Counting.{sharesCount, gatesShown, AllCountable, Needed}
+use Rattle.construct.specs.Counters.{AllCountable, Needed}
 use Rattle.construct.specs.Tables.{treeIn, treesIn}
 use Rattle.construct.specs.Writing.{Writable}
-use Rattle.construct.proofs.CountLaws.{circuit-length}
 use Rattle.compile.specs.Compiling.{outputTrees, programCircuit}
 use Rattle.compile.specs.Steps.{Fitting}
 

@@ -20,9 +20,9 @@ use Rattle.program.specs.Exprs.{Expr, value}
 use Rattle.program.specs.Programs.{Program, headOf, outputValue}
 use Rattle.program.specs.Reading.{programOf}
 use Rattle.program.proofs.AcceptedLaws as program
-use Rattle.construct.specs.Construction.{shares}
-use Rattle.construct.specs.Theorems.{Start, After, SharesRestore}
-use Rattle.construct.proofs.RestoreLaws.{shares-restore}
+use Rattle.construction.specs.Construction.{shares}
+use Rattle.construction.specs.Theorems.{Start, After, SharesRestore}
+use Rattle.construction.proofs.RestoreLaws.{shares-restore}
 use Rattle.evaluate.specs.Evaluating.{evaluateOf}
 use Rattle.evaluate.proofs.EvaluateLaws.{output-answered}
 use Rattle.compile.specs.Compiling.{outputTrees, programCircuit, compileOf}

@@ -18,7 +18,7 @@ use Rattle.circuit.specs.Format.{fileLength, circuitFile}
 use Rattle.circuit.proofs.WriterLaws.{file-length}
 use Rattle.program.specs.Exprs.{size}
 use Rattle.program.specs.Programs.{Program, outputTree}
-use Rattle.construct.specs.Counting.{gatesShown}
+use Rattle.construction.specs.Counting.{gatesShown}
 use Rattle.compile.specs.Compiling.{programCircuit, compileProgram}
 
 -- the test of cause 8 at output k

@@ -12,7 +12,7 @@ use Rattle.circuit.specs.Circuits.{Circuit, headOf, headLines}
 use Rattle.circuit.specs.Format.{fileLength}
 use Rattle.run.specs.RunCircuit.{runForwards, linesAfter, done}
 use Rattle.program.specs.Programs.{Program, outputValue}
-use Rattle.construct.specs.Theorems.{Start, After}
+use Rattle.construction.specs.Theorems.{Start, After}
 use Rattle.compile.specs.Compiling.{programCircuit, compileOf}
 use Rattle.compile.specs.Demand.{fileWritten, firstOutputs, Demand3}
 use Rattle.compile.specs.EndToEnd.{compileAndRun, Ended, Ends}

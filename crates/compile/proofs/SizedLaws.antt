@@ -29,11 +29,12 @@ use Rattle.program.specs.Reading.{inputsOf, outputAt, programOf}
 use Rattle.program.specs.Trees.{trees}
 use Rattle.program.proofs.AcceptedLaws.{Accepted, accepted, inputs-is, nodes-length, outputs-length, same-nodes}
 use Rattle.program.proofs.ReadingLaws.{nodes-counted}
+use Rattle.construction.specs.Construction.{circuit}
+use Rattle.construction.specs.Counting.{gatesShown}
+use Rattle.construction.proofs.CountLaws.{shown-within, shown-over}
 use Rattle.construct.specs.declared.counter.Needs.{Needs}
-use Rattle.construct.specs.Construction.{circuit}
-use Rattle.construct.specs.Counting.{gatesShown, AllCountable, Needed}
+use Rattle.construct.specs.Counters.{AllCountable, Needed}
 use Rattle.construct.specs.Tables.{treesIn}
-use Rattle.construct.proofs.CountLaws.{shown-within, shown-over}
 use Rattle.compile.specs.Compiling.{outputTrees, programCircuit, compileProgram}
 use Rattle.sizing.specs.Sizing.{nodeSizes, entryFits, Named}
 use Rattle.compile.specs.Steps.{Listed, Fitting}

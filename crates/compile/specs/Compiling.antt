@@ -13,8 +13,8 @@ use Rattle.circuit.specs.Format.{circuitFile, areaAfter}
 use Rattle.program.specs.Exprs.{Expr, size}
 use Rattle.program.specs.Programs.{Program, outputTree}
 use Rattle.program.specs.Reading.{readProgram}
-use Rattle.construct.specs.Construction.{circuit, linesNeeded}
-use Rattle.construct.specs.Counting.{gatesShown}
+use Rattle.construction.specs.Construction.{circuit, linesNeeded}
+use Rattle.construction.specs.Counting.{gatesShown}
 use Rattle.compile.specs.declared.Compiled.{Compiled}
 use Rattle.compile.specs.declared.Compiled.the-variants.{Written, Refused}
 use Rattle.sizing.specs.Sizing.{nodeSizes}

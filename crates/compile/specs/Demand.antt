@@ -14,7 +14,7 @@ use Rattle.run.specs.RunCircuit.{runForwards}
 use Rattle.program.specs.Programs.{Program, outputValue}
 use Rattle.program.specs.Reading.{readProgram}
 use Rattle.evaluate.specs.Evaluating.{evaluateOf}
-use Rattle.construct.specs.Theorems.{Start, firstShares, shareOf, After}
+use Rattle.construction.specs.Theorems.{Start, firstShares, shareOf, After}
 use Rattle.compile.specs.Compiling.{outputTrees, programCircuit, compileOf}
 
 -- the file written: the first bytes of the area at exit, as many as the answer's gates need

@@ -9,7 +9,7 @@ use Rattle.circuit.specs.Circuits.{headLines}
 use Rattle.run.specs.RunCircuit.{runForwards}
 use Rattle.program.specs.Programs.{Program, outputValue}
 use Rattle.program.specs.Reading.{readProgram}
-use Rattle.construct.specs.Theorems.{Start, After}
+use Rattle.construction.specs.Theorems.{Start, After}
 use Rattle.compile.specs.Compiling.{compileOf}
 use Rattle.compile.specs.Demand.{fileWritten}
 

@@ -24,7 +24,7 @@ ghost use Rattle.wire.specs.Answers.{mapAnswer};
 ghost use Rattle.circuit.specs.Circuits.{headOf};
 ghost use Rattle.circuit.specs.Format.{fileLength, openingBytes, putGates, areaAfter};
 ghost use Rattle.program.specs.Reading.{programOf};
-ghost use Rattle.construct.specs.Construction.{circuit as gatesOf};
+ghost use Rattle.construction.specs.Construction.{circuit as gatesOf};
 ghost use Rattle.construct.specs.Tables.{treesIn};
 ghost use Rattle.compile.specs.Compiling.{compileProgram, compileOf, compiled};
 ghost use Rattle.compile.specs.Demand.{Demand3};

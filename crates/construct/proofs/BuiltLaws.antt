@@ -8,14 +8,14 @@ use lib.ListN.{length}
 use Rattle.gate.specs.declared.gates.Gate.the-variants.{Not, Cnot, Toffoli}
 use Rattle.circuit.specs.Format.{fileLength}
 use Rattle.program.specs.Exprs.{Expr, ZERO, ONE, INPUT, NOT, XOR, AND}
+use Rattle.construction.specs.Construction.{held, most, second, build}
+use Rattle.construction.specs.Counting.{gateCount}
+use Rattle.construction.proofs.CountLaws.{build-length}
+use Rattle.construction.proofs.LineLaws.{most-not, most-xor-first, most-xor-second, most-and-first, most-and-second}
 use Rattle.construct.specs.declared.builder.Progress.{Progress}
-use Rattle.construct.specs.Construction.{held, most, second, build}
-use Rattle.construct.specs.Counting.{gateCount}
 use Rattle.construct.specs.Tables.{treeIn, Valid}
 use Rattle.construct.specs.Writing.{Stored, Appended, Built, Room}
 use Rattle.construct.proofs.AreaLaws.{stored-none, stored-then}
-use Rattle.construct.proofs.CountLaws.{build-length}
-use Rattle.construct.proofs.LineLaws.{most-not, most-xor-first, most-xor-second, most-and-first, most-and-second}
 use Rattle.construct.proofs.OperandLaws.{Unary, Binary}
 
 -- a tree's gates, from those of its operands

@@ -7,12 +7,13 @@ use lib.ListN.{length, getD, drop, drop-of-length-le}
 use Rattle.wire.proofs.ListLaws.{drop-next}
 use Rattle.program.specs.Exprs.{Expr, ZERO, ONE, INPUT, NOT, XOR, AND, size}
 use Rattle.program.specs.Reading.{outputAt}
+use Rattle.construction.specs.Construction.{held, most, linesNeeded}
+use Rattle.construction.specs.Counting.{gateCount, ownCount, shareCount, sharesCount, gatesShown}
+use Rattle.construction.proofs.CountLaws.{own-few, lines-below-size, gates-within-size, share-within-size}
 use Rattle.construct.specs.declared.counter.Counts.{Counts}
 use Rattle.construct.specs.declared.counter.Needs.{Needs}
-use Rattle.construct.specs.Construction.{held, most, linesNeeded}
-use Rattle.construct.specs.Counting.{gateCount, ownCount, shareCount, sharesCount, gatesShown, Few, Countable, Counted, Needed}
+use Rattle.construct.specs.Counters.{Few, Countable, Counted, Needed}
 use Rattle.construct.specs.Tables.{treeIn, treesIn}
-use Rattle.construct.proofs.CountLaws.{own-few, lines-below-size, gates-within-size, share-within-size}
 use Rattle.construct.proofs.OperandLaws.{Operand, trees-length, tree-at}
 
 module _ {e : Expr} {x : Counts} (k : Counted e x) where

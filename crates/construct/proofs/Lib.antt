@@ -1,13 +1,7 @@
-pub mod AndCases
 pub mod AreaLaws
 pub mod BuiltLaws
-pub mod ComputeLaws
-pub mod CountLaws
 pub mod CountedLaws
-pub mod LineLaws
 pub mod OperandLaws
-pub mod RestoreLaws
 pub mod ReverseLaws
-pub mod ShareLaws
 pub mod ShareLoop
 pub mod WriteLaws

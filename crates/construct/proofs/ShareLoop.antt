@@ -11,10 +11,10 @@ use Rattle.program.specs.Exprs.{Expr, ZERO}
 use Rattle.program.specs.Reading.{outputAt}
 use Rattle.circuit.specs.Format.{putGates}
 use Rattle.circuit.proofs.WriterLaws.{put-length, put-none, put-append}
-use Rattle.construct.specs.Construction.{most, share, shares, circuit, linesNeeded}
+use Rattle.construction.specs.Construction.{most, share, shares, circuit, linesNeeded}
+use Rattle.construction.proofs.CountLaws.{share-length, circuit-length}
 use Rattle.construct.specs.Tables.{treeIn, treesIn}
 use Rattle.construct.specs.Writing.{Stored, ShareRoom, Writable}
-use Rattle.construct.proofs.CountLaws.{share-length, circuit-length}
 use Rattle.construct.proofs.OperandLaws.{trees-length, tree-at}
 
 -- no output takes more work lines than are needed

@@ -11,15 +11,15 @@ use Rattle.program.specs.Exprs.{Expr}
 use Rattle.program.specs.Nodes.{nodesIn}
 use Rattle.program.proofs.TreeLaws.{trees-below}
 use Rattle.circuit.proofs.WriterLaws.{put-length}
+use Rattle.construction.specs.Construction.{build, share}
+use Rattle.construction.specs.Counting.{gateCount, shareCount}
+use Rattle.construction.specs.Theorems.{Apart}
+use Rattle.construction.proofs.CountLaws.{own-few, share-length}
+use Rattle.construction.proofs.LineLaws.{build-formed}
 use Rattle.construct.specs.declared.builder.Progress.{Progress}
-use Rattle.construct.specs.Construction.{build, share}
-use Rattle.construct.specs.Counting.{gateCount, shareCount}
 use Rattle.construct.specs.Tables.{treeIn}
 use Rattle.construct.specs.Writing.{gatesFrom, Stored, Reversible, Built, Room, ShareRoom}
-use Rattle.construct.specs.Theorems.{Apart}
 use Rattle.construct.proofs.AreaLaws.{put-back, stored-then}
-use Rattle.construct.proofs.CountLaws.{own-few, share-length}
-use Rattle.construct.proofs.LineLaws.{build-formed}
 
 -- building takes no more gates than the share
 build-few : (e : Expr) → gateCount e ≤ shareCount e

@@ -1,5 +1,3 @@
-pub mod Construction
-pub mod Counting
+pub mod Counters
 pub mod Tables
-pub mod Theorems
 pub mod Writing

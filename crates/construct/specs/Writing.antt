@@ -13,9 +13,9 @@ use Rattle.program.specs.Exprs.{Expr}
 use Rattle.program.specs.Nodes.{nodesIn}
 use Rattle.program.specs.Reading.{outputAt}
 use Rattle.program.specs.Trees.{TableOk}
+use Rattle.construction.specs.Construction.{held, most, build, linesNeeded}
+use Rattle.construction.specs.Counting.{gateCount, shareCount, sharesCount}
 use Rattle.construct.specs.declared.builder.Progress.{Progress}
-use Rattle.construct.specs.Construction.{held, most, build, linesNeeded}
-use Rattle.construct.specs.Counting.{gateCount, shareCount, sharesCount}
 use Rattle.construct.specs.Tables.{treeIn, treesIn, Valid}
 
 -- gate i of an area

@@ -4,7 +4,7 @@ use program::node::node_at;
 use program::reader::output_at;
 ghost use mathlib.Core.Path.{_≡_};
 ghost use Prim.Native.Nat.{_+_, _*_, _-_, _≤_, max};
-ghost use Rattle.construct.specs.Counting.{Few, Countable, Counted, AllCountable, Needed};
+ghost use Rattle.construct.specs.Counters.{Few, Countable, Counted, AllCountable, Needed};
 ghost use Rattle.construct.specs.Tables.{treeIn, treesIn};
 
 // A tree's numbers: its gates, those of them that change its own line, and the most work lines

@@ -3,7 +3,7 @@ use crate::builder::Progress;
 use crate::builder::build;
 use crate::reverser::append_reversed;
 use program::reader::output_at;
-ghost use Rattle.construct.specs.Construction.{share, circuit};
+ghost use Rattle.construction.specs.Construction.{share, circuit};
 ghost use Rattle.construct.specs.Tables.{treeIn, treesIn};
 ghost use Rattle.construct.specs.Writing.{Stored, ShareRoom, Writable};
 

@@ -15,9 +15,10 @@ use Rattle.program.specs.Exprs.{Expr, INPUT, AND, size}
 use Rattle.program.specs.Nodes.{nodeAt, nodesIn, nodeFits, operandsFit}
 use Rattle.program.specs.Trees.{trees, treesFrom, treeOf, TableOk}
 use Rattle.program.proofs.NodeLaws.{node-ok}
+use Rattle.construction.specs.Construction.{held, most, linesNeeded}
+use Rattle.construction.specs.Counting.{gateCount, ownCount, shareCount, sharesCount, gatesShown}
 use Rattle.construct.specs.declared.counter.Needs.{Needs}
-use Rattle.construct.specs.Construction.{held, most, linesNeeded}
-use Rattle.construct.specs.Counting.{gateCount, ownCount, shareCount, sharesCount, gatesShown, AllCountable, Needed}
+use Rattle.construct.specs.Counters.{AllCountable, Needed}
 use Rattle.construct.specs.Tables.{treeIn, treesIn, Valid}
 use Rattle.construct.specs.Writing.{Writable}
 

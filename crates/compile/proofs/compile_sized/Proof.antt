@@ -7,7 +7,7 @@ use borrow.Author.Needs.{needs}
 use borrow.Author.Tests.{not-true, not-false}
 use Rattle.wire.specs.Checks.{lowest}
 use Rattle.wire.specs.Contents.{bodyOf}
-use Rattle.construct.specs.Counting.{Needed}
+use Rattle.construct.specs.Counters.{Needed}
 use Rattle.construct.specs.Tables.{treesIn}
 use Rattle.sizing.specs.Sizing.{entryFits}
 use Rattle.compile.proofs.SizedLaws.{accepts, named, size-refused, shares-countable, grant-refused, lines-refused, room-refused, few-gates, head-fits, circuit-written}

@@ -4,7 +4,7 @@ use mathlib.Core.Path.{ap, _∙_}
 use mathlib.Core.List.{List}
 use borrow.Author.Needs.{needs}
 use Rattle.circuit.specs.Format.{putGates}
-use Rattle.construct.specs.Construction.{circuit}
+use Rattle.construction.specs.Construction.{circuit}
 use Rattle.construct.specs.Tables.{treesIn}
 use Rattle.compile.proofs.BodyLaws.{writable-same}
 use Rattle.compile.proofs.write_circuit.Statement.{statement}

@@ -8,7 +8,7 @@ use Rattle.gate.specs.Gates.{target}
 use Rattle.gate.specs.Running.{addend, step, run, without, undo}
 use Rattle.gate.proofs.OrderCase.{fourInputs}
 use Rattle.program.specs.Exprs.{Expr, INPUT, AND}
-use Rattle.construct.specs.Construction.{held, most, second, build, share, shares, circuit, linesNeeded}
+use Rattle.construction.specs.Construction.{held, most, second, build, share, shares, circuit, linesNeeded}
 
 -- the ANDs of the inputs 0 and 1, and of 0 to 2
 abbrev pub twoAnd : Expr

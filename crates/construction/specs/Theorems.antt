@@ -11,7 +11,7 @@ use Rattle.gate.specs.Gates.{WellFormed, All}
 use Rattle.gate.specs.Running.{run}
 use Rattle.gate.specs.Theorems.{Spares}
 use Rattle.program.specs.Exprs.{Expr, ZERO, value, InputsBelow, EachBelow}
-use Rattle.construct.specs.Construction.{most, build, share, shares, circuit, linesNeeded}
+use Rattle.construction.specs.Construction.{most, build, share, shares, circuit, linesNeeded}
 
 -- inputs, target and work lines are apart: the inputs are below n, the target t is not, and the lines taken start at f, behind it, and end below L
 pub record Apart (n : ℕ) (e : Expr) (t f L : ℕ) : Type 0 where

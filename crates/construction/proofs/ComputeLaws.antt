@@ -14,9 +14,9 @@ use Rattle.gate.specs.Running.{addend, step, run}
 use Rattle.gate.proofs.StepLaws.{length-run, step-target, step-other, step-bits, run-append, run-bits}
 use Rattle.program.specs.Exprs.{Expr, ZERO, ONE, INPUT, NOT, XOR, AND, value}
 use Rattle.program.proofs.ValueLaws.{value-bit}
-use Rattle.construct.specs.Construction.{held, most, second, build}
-use Rattle.construct.specs.Theorems.{Apart, Zeros, Computes, BuildComputes}
-use Rattle.construct.proofs.LineLaws.{most-not, most-xor-first, most-xor-second, most-and-first, most-and-second, apart-not, apart-xor-first, apart-xor-second, apart-and-first, apart-and-second, build-formed, build-leaves, build-frees}
+use Rattle.construction.specs.Construction.{held, most, second, build}
+use Rattle.construction.specs.Theorems.{Apart, Zeros, Computes, BuildComputes}
+use Rattle.construction.proofs.LineLaws.{most-not, most-xor-first, most-xor-second, most-and-first, most-and-second, apart-not, apart-xor-first, apart-xor-second, apart-and-first, apart-and-second, build-formed, build-leaves, build-frees}
 
 -- where a run leaves the first n lines, they are read as before
 pub inputs-run : (n : ℕ) (gs : List Gate) (s : List ℕ) → ((i : ℕ) → i < n → bit (run gs s) i ≡ bit s i) → take n (run gs s) ≡ take n s

@@ -13,8 +13,8 @@ use Rattle.gate.proofs.AllLaws.{all-append, all-map}
 use Rattle.gate.proofs.StepLaws.{controls-map, run-other}
 use Rattle.gate.proofs.WellFormedLaws.{ToffoliLines, not-formed, cnot-formed, toffoli-formed}
 use Rattle.program.specs.Exprs.{Expr, ZERO, ONE, INPUT, NOT, XOR, AND, InputsBelow}
-use Rattle.construct.specs.Construction.{held, most, second, build}
-use Rattle.construct.specs.Theorems.{Apart, BuildLeaves, TargetNoControl}
+use Rattle.construction.specs.Construction.{held, most, second, build}
+use Rattle.construction.specs.Theorems.{Apart, BuildLeaves, TargetNoControl}
 
 -- nothing taken is freed before the share is over
 pub most-held : (e : Expr) → most e ≤ held e

@@ -15,10 +15,10 @@ use Rattle.gate.specs.Running.{run}
 use Rattle.gate.proofs.AllLaws.{all-append}
 use Rattle.gate.proofs.StepLaws.{length-run, run-append, run-bits}
 use Rattle.program.specs.Exprs.{Expr, ZERO, value, EachBelow}
-use Rattle.construct.specs.Construction.{share, shares, circuit, linesNeeded}
-use Rattle.construct.specs.Theorems.{Apart, Zeros, CircuitFormed, Start, firstShares, shareOf, After, SharesRestore}
-use Rattle.construct.proofs.ComputeLaws.{inputs-run}
-use Rattle.construct.proofs.ShareLaws.{share-formed, share-restores, share-computes}
+use Rattle.construction.specs.Construction.{share, shares, circuit, linesNeeded}
+use Rattle.construction.specs.Theorems.{Apart, Zeros, CircuitFormed, Start, firstShares, shareOf, After, SharesRestore}
+use Rattle.construction.proofs.ComputeLaws.{inputs-run}
+use Rattle.construction.proofs.ShareLaws.{share-formed, share-restores, share-computes}
 
 -- inputs, targets and work lines of several outputs are apart: the targets start at t, behind the inputs, and the work lines at f, behind the targets
 pub record AllApart (n : ℕ) (es : List Expr) (t f L : ℕ) : Type 0 where

@@ -12,9 +12,9 @@ use Rattle.gate.specs.Gates.{target}
 use Rattle.gate.specs.Running.{without, undo}
 use Rattle.gate.proofs.UndoLaws.{without-none, without-both, undo-length}
 use Rattle.program.specs.Exprs.{Expr, ZERO, ONE, INPUT, NOT, XOR, AND, size}
-use Rattle.construct.specs.Construction.{held, most, second, build, share, shares, circuit}
-use Rattle.construct.specs.Counting.{gateCount, ownCount, shareCount, sharesCount, gatesShown}
-use Rattle.construct.proofs.LineLaws.{most-held, build-misses}
+use Rattle.construction.specs.Construction.{held, most, second, build, share, shares, circuit}
+use Rattle.construction.specs.Counting.{gateCount, ownCount, shareCount, sharesCount, gatesShown}
+use Rattle.construction.proofs.LineLaws.{most-held, build-misses}
 
 -- a tree is built by as many gates as are counted
 pub build-length : (e : Expr) (t f : ℕ) → length (build e t f) ≡ gateCount e

@@ -13,10 +13,10 @@ use Rattle.gate.proofs.AllLaws.{all-append, all-reverse}
 use Rattle.gate.proofs.UndoLaws.{all-without, without-target}
 use Rattle.gate.proofs.StepLaws.{run-append, run-other, uncomputes}
 use Rattle.program.specs.Exprs.{Expr}
-use Rattle.construct.specs.Construction.{most, build, share}
-use Rattle.construct.specs.Theorems.{Apart, Zeros, Computes, ShareFormed, ShareRestores}
-use Rattle.construct.proofs.LineLaws.{build-formed, target-no-control}
-use Rattle.construct.proofs.ComputeLaws.{build-computes}
+use Rattle.construction.specs.Construction.{most, build, share}
+use Rattle.construction.specs.Theorems.{Apart, Zeros, Computes, ShareFormed, ShareRestores}
+use Rattle.construction.proofs.LineLaws.{build-formed, target-no-control}
+use Rattle.construction.proofs.ComputeLaws.{build-computes}
 
 -- every gate of a share is well formed
 pub share-formed : ShareFormed
