@@ -1,7 +1,7 @@
 -- A program of two outputs and its circuit, and 01's whole case as a file that is accepted. Assumes nothing.
 use Prim.Native.Nat.{ℕ}
 use mathlib.Core.Path.{_≡_, refl}
-use mathlib.Core.List.{List, [], _∷_, _++_}
+use mathlib.Core.List.{List, [], _∷_}
 use lib.ListN.{drop, replicate}
 use Rattle.wire.specs.Answers.{result}
 use Rattle.wire.specs.Checks.{lowestFrom}

@@ -9,14 +9,14 @@ use Rattle.wire.specs.Lists.{tabulate}
 use Rattle.wire.proofs.ListLaws.{tabulate-same}
 use Rattle.circuit.specs.declared.reader.CircuitHead.{CircuitHead}
 use Rattle.circuit.specs.Circuits.{gateCount}
-use Rattle.circuit.specs.Format.{fileLength, Small}
+use Rattle.circuit.specs.Format.{fileLength}
 use Rattle.program.specs.declared.node.Node.{Node}
 use Rattle.program.specs.Exprs.{Expr, ZERO, size}
 use Rattle.program.specs.Nodes.{nodesIn}
 use Rattle.program.specs.Programs.{outputTree}
 use Rattle.program.specs.Reading.{inputsOf, outputAt, programOf}
 use Rattle.program.specs.Trees.{trees, TableOk}
-use Rattle.program.proofs.AcceptedLaws.{Accepted, same-nodes, outputs-length, output-is, inputs-is, table-ok}
+use Rattle.program.proofs.AcceptedLaws.{Accepted, same-nodes, outputs-length, output-is, table-ok}
 use Rattle.program.proofs.ReadingLaws.{nodes-counted, outputs-counted}
 use Rattle.construction.specs.Construction.{circuit, linesNeeded}
 use Rattle.construction.specs.Counting.{sharesCount, gatesShown}

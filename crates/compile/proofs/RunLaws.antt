@@ -1,12 +1,11 @@
 -- Laws of compiling a file and running it: the answer, the lines at exit, and the end of the run. Assumes nothing.
-use Prim.Native.Nat.{ℕ, _+_, _≤_}
+use Prim.Native.Nat.{ℕ, _≤_}
 use native.Mathlib.Omega.{arith}
 use mathlib.Core.Path.{_≡_, refl, sym, ap, _∙_, subst}
 use mathlib.Core.List.{List}
 use lib.ListN.{length, take}
 use Rattle.wire.specs.Answers.{Answer, result, refused}
 use Rattle.wire.proofs.AnswerLaws.{same-result}
-use Rattle.gate.specs.Running.{run}
 use Rattle.circuit.specs.declared.reader.CircuitHead.{CircuitHead}
 use Rattle.circuit.specs.Circuits.{Circuit, headOf, headLines}
 use Rattle.circuit.specs.Format.{fileLength}
@@ -14,7 +13,7 @@ use Rattle.run.specs.RunCircuit.{runForwards, linesAfter, done}
 use Rattle.program.specs.Programs.{Program, outputValue}
 use Rattle.construction.specs.Theorems.{Start, After}
 use Rattle.compile.specs.Compiling.{programCircuit, compileOf}
-use Rattle.compile.specs.Demand.{fileWritten, firstOutputs, Demand3}
+use Rattle.compile.specs.Demand.{fileWritten, Demand3}
 use Rattle.compile.specs.EndToEnd.{compileAndRun, Ended, Ends}
 use Rattle.compile.proofs.AcceptedLaws.{accepted}
 

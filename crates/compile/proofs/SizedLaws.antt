@@ -8,7 +8,7 @@ use mathlib.Core.List.{List, _++_}
 use lib.ListN.{length, getD, drop, replicate, length-append}
 use lib.Dec.{eqb, leb}
 use lib.Seq.{sets}
-use borrow.Author.Tests.{ne-eqb, leb-true, leb-false, le-leb, lt-leb}
+use borrow.Author.Tests.{ne-eqb, leb-true, leb-false}
 use Rattle.wire.specs.Answers.{Answer, result, refuse, mapAnswer, numberOf}
 use Rattle.wire.specs.Checks.{lowest}
 use Rattle.wire.specs.Contents.{bodyOf}
@@ -35,7 +35,7 @@ use Rattle.construction.proofs.CountLaws.{shown-within, shown-over}
 use Rattle.construct.specs.declared.counter.Needs.{Needs}
 use Rattle.construct.specs.Counters.{AllCountable, Needed}
 use Rattle.construct.specs.Tables.{treesIn}
-use Rattle.compile.specs.Compiling.{outputTrees, programCircuit, compileProgram}
+use Rattle.compile.specs.Compiling.{programCircuit, compileProgram}
 use Rattle.sizing.specs.Sizing.{nodeSizes, entryFits, Named}
 use Rattle.compile.specs.Steps.{Listed, Fitting}
 use Rattle.compile.proofs.BodyLaws.{outputs-count, names-node, named-tree, trees-same, countable, lines-counted, gates-counted, fitting}

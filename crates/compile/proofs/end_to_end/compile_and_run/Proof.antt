@@ -1,14 +1,10 @@
-use Prim.Native.Nat.{ℕ}
 use native.Mathlib.Omega.{arith}
 use mathlib.Core.Path.{_≡_, sym, ap, _∙_}
-use mathlib.Core.List.{List}
-use lib.ListN.{take}
 use lib.Seq.{length-take-le}
 use borrow.Author.Needs.{needs}
 use Rattle.wire.specs.Answers.{result}
-use Rattle.run.specs.RunCircuit.{ran, runForwards, linesAfter, done}
+use Rattle.run.specs.RunCircuit.{ran}
 use Rattle.compile.specs.Compiling.{compiled, compileOf}
-use Rattle.compile.specs.Demand.{Demand3}
 use Rattle.compile.proofs.RunLaws.{compile-refused, gates-few, file-inside, compiled-run}
 use Rattle.compile.proofs.end_to_end.compile_and_run.Statement.{statement}
 use Rattle.compile.proofs.end_to_end.compile_and_run.Tie as tie
