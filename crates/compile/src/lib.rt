@@ -24,7 +24,7 @@ ghost use Rattle.wire.specs.Answers.{mapAnswer};
 ghost use Rattle.circuit.specs.Circuits.{headOf};
 ghost use Rattle.circuit.specs.Format.{fileLength, openingBytes, putGates, areaAfter};
 ghost use Rattle.program.specs.Reading.{programOf};
-ghost use Rattle.construction.specs.Construction.{circuit as gatesOf};
+ghost use Rattle.construction.specs.Construction.{circuit};
 ghost use Rattle.construct.specs.Tables.{treesIn};
 ghost use Rattle.compile.specs.Compiling.{compileProgram, compileOf, compiled};
 ghost use Rattle.compile.specs.Demand.{Demand3};
@@ -59,7 +59,7 @@ fn has_room(gates: usize, room: usize) -> bool
 // Stores the head and the shares of all outputs.
 fn write_circuit(nodes: &[u8], outputs: &[u8], head: CircuitHead, area: &mut [u8])
     requires { ⌜ Fitting (now nodes) (now outputs) head (now area) ⌝ }
-    ensures { λ _. ⌜ now (area .exit) ≡ putGates (sets (now (area .entry)) 0 (openingBytes head)) 0 (gatesOf (head .inputs) (treesIn (now (nodes .entry)) (now (outputs .entry)))) ⌝ }
+    ensures { λ _. ⌜ now (area .exit) ≡ putGates (sets (now (area .entry)) 0 (openingBytes head)) 0 (circuit (head .inputs) (treesIn (now (nodes .entry)) (now (outputs .entry)))) ⌝ }
 {
     write_head(area, head);
     write_shares(nodes, outputs, head.inputs, area);

@@ -64,21 +64,21 @@ same-length : tie.Need-same-length
 same-length c = search needs
 
 returns : tie.Need-returns
-unfolding gateLine
+unfolding gateLine line
 returns c = rw (c .before .before .before .before .before .before .before .gate .given .1) (c .before .before .put-line .ensures)
 
 same-length-2 : tie.Need-same-length-2
 same-length-2 c = search needs
 
 returns-2 : tie.Need-returns-2
-unfolding gateLine
+unfolding gateLine line
 returns-2 c = rw (c .before .before .before .before .before .before .before .gate2 .given .1) (c .before .before .put-line2 .ensures)
 
 same-length-3 : tie.Need-same-length-3
 same-length-3 c = search needs
 
 returns-3 : tie.Need-returns-3
-unfolding gateLine
+unfolding gateLine line
 returns-3 c = rw (c .before .before .before .before .before .before .before .gate3 .given .1) (c .before .before .put-line3 .ensures)
 
 pub put-gate-spec : {M : Type 1} → statement M
