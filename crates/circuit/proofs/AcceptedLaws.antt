@@ -10,7 +10,7 @@ use borrow.Author.Tests.{eq-eqb, ne-eqb}
 use Rattle.wire.specs.Answers.{Answer, result, refuse, check, checkEach, mapAnswer, numberOf, placeOf}
 use Rattle.wire.specs.Bits.{Bits, bitsFit}
 use Rattle.wire.specs.Checks.{allBelow, lowest}
-use Rattle.wire.specs.Contents.{tableFits, entriesFit, bodyOf}
+use Rattle.wire.specs.Contents.{tableFits, entriesFit, bodyOf, Laid}
 use Rattle.wire.specs.Lists.{tabulate}
 use Rattle.wire.specs.declared.refusals.Refusal.{Refusal}
 use Rattle.wire.specs.declared.refusals.Refusal.the-variants as cause
@@ -27,7 +27,6 @@ use Rattle.circuit.specs.declared.reader.CircuitRead.{CircuitRead}
 use Rattle.circuit.specs.declared.reader.CircuitRead.the-variants.{Good, Refused}
 use Rattle.circuit.specs.Circuits.{Circuit, lineCount, headOf, headLines, Legal, gatesIn}
 use Rattle.circuit.specs.Format.{tags}
-use Rattle.circuit.specs.Layout.{Laid}
 use Rattle.circuit.specs.Reading.{lengthsFit, rangesFit, headIn, readHead, circuitOf, readCircuit, readWithLines, circuitRead}
 use Rattle.circuit.proofs.ReadingLaws.{Headed, headed, gates-counted, lines-most}
 
@@ -83,17 +82,7 @@ module _ (f : List ℕ) (c : Circuit) (a : Accepted f c) where
       (all-tabulate (WellFormed (headLines (a .head))) (gateAt body) (a .head .gates) (λ i h. fits-formed (headLines (a .head)) body i (a .gates-fit i h)))
 
   pub legal : Legal c
-  unfolding headIn
-  legal =
-      let r = a .headed .ranged in
-      record {
-        inputs-most = omega (arith, ap (λ (k : CircuitHead). k .inputs) (head-is ∙ a .headed .is), r .inputs-most);
-        outputs-some = omega (arith, ap (λ (k : CircuitHead). k .outputs) (head-is ∙ a .headed .is), r .outputs-some);
-        outputs-most = omega (arith, ap (λ (k : CircuitHead). k .outputs) (head-is ∙ a .headed .is), r .outputs-most);
-        work-most = omega (arith, ap (λ (k : CircuitHead). k .work) (head-is ∙ a .headed .is), r .work-most);
-        gates-most = omega (arith, ap (λ (k : CircuitHead). k .gates) (head-is ∙ a .headed .is), a .headed .sized .most);
-        formed = formed;
-      }
+  legal = record { numbers = rw head-is (a .headed .ranged); formed = formed }
 
 -- a file that was read with bytes for its lines
 pub record WithLines (f lines : List ℕ) (c : Circuit) : Type 0 where
@@ -123,7 +112,7 @@ module _ (f lines : List ℕ) (c : Circuit) (e : readWithLines f lines ≡ resul
   holds = accepted f c (was .reads)
 
   -- the bodies lie within the file
-  pub lines-laid : Laid f
+  pub lines-laid : Laid 2 f
   lines-laid = holds .headed .sized .laid
 
   -- the gates of its gate body are the circuit's, and well formed on the lines

@@ -10,6 +10,7 @@ use borrow.Author.Tests.{eq-eqb, le-leb}
 use Rattle.wire.specs.Answers.{result}
 use Rattle.wire.specs.Bytes.{at16, bytes16, Bytes}
 use Rattle.wire.specs.Contents.{tableLength, tableFits, entriesFit, entryStart, entryLength, bodyOf, contentsBytes, total}
+use Rattle.wire.specs.Counts.{inputsOf, outputsOf, countsFit}
 use Rattle.wire.specs.Lists.{tabulateFrom, tabulate}
 use Rattle.wire.proofs.ByteLaws.{number16, bytes-take, bytes-drop, drop16}
 use Rattle.wire.proofs.CheckLaws.{below-all}
@@ -21,11 +22,10 @@ use Rattle.gate.proofs.ReadBackLaws.{gates-back, gates-fit, gates-only}
 use Rattle.circuit.specs.declared.reader.CircuitHead.{CircuitHead}
 use Rattle.circuit.specs.Circuits.{Circuit, Legal, lineCount, headOf, headLines}
 use Rattle.circuit.specs.Format.{tags, headLength, firstGate, headBytes, openingBytes, circuitFile}
-use Rattle.circuit.specs.Layout.{Laid, Sized}
-use Rattle.circuit.specs.Reading.{inputsOf, outputsOf, workOf, gatesOf, lengthsFit, rangesFit, headIn, readHead, circuitOf, readCircuit}
+use Rattle.circuit.specs.Reading.{workOf, gatesOf, lengthsFit, rangesFit, headIn, readHead, circuitOf, readCircuit}
 use Rattle.circuit.specs.Theorems.{ReadsBack, OnlyWriting, SameBytes}
 use Rattle.circuit.proofs.AcceptedLaws.{Accepted, accepted, legal}
-use Rattle.circuit.proofs.ReadingLaws.{laid, head-long, gates-long}
+use Rattle.circuit.proofs.ReadingLaws.{Placed, placed, Sized, head-long, gates-long}
 use Rattle.circuit.proofs.WriterLaws.{opening-length}
 
 -- the lengths of the bodies
@@ -62,8 +62,8 @@ module _ (c : Circuit) (l : Legal c) where
   file-entries : entriesFit tags (circuitFile c) ≡ true
   file-entries = rw (file-split c) (entries-back whole)
 
-  file-laid : Laid (circuitFile c)
-  file-laid = laid (circuitFile c) file-table file-entries
+  file-placed : Placed (circuitFile c)
+  file-placed = placed (circuitFile c) file-entries
 
   -- the bodies are as long as was written
   pub head-entry : entryLength (circuitFile c) 0 ≡ headLength
@@ -75,7 +75,7 @@ module _ (c : Circuit) (l : Legal c) where
   -- and hold what was written
   pub head-body : bodyOf (circuitFile c) 0 ≡ headBytes (headOf c)
   head-body =
-      ap₂ (λ (n at : ℕ). take n (drop at (circuitFile c))) head-entry (file-laid .first)
+      ap₂ (λ (n at : ℕ). take n (drop at (circuitFile c))) head-entry (file-placed .first)
       ∙ ap (λ (f : List ℕ). take headLength (drop (tableLength 2) f)) (file-split c)
       ∙ ap (take headLength) (drop-at (contentsBytes tags (lengthsIn c)) (bodiesOf c) (tableLength 2) (contents-length tags (lengthsIn c) refl))
       ∙ take-at (headBytes (headOf c)) (gatesBytes (c .gates)) headLength refl
@@ -83,7 +83,7 @@ module _ (c : Circuit) (l : Legal c) where
   pub gates-body : bodyOf (circuitFile c) 1 ≡ gatesBytes (c .gates)
   unfolding circuitFile
   gates-body =
-      let start : entryStart (circuitFile c) 1 ≡ firstGate = omega (arith, file-laid .first, file-laid .second, head-entry) in
+      let start : entryStart (circuitFile c) 1 ≡ firstGate = omega (arith, file-placed .first, file-placed .second, head-entry) in
       ap₂ (λ (n at : ℕ). take n (drop at (circuitFile c))) gates-entry start
       ∙ ap (take (8 * length (c .gates))) (drop-at (openingBytes (headOf c)) (gatesBytes (c .gates)) firstGate (opening-length (headOf c)))
       ∙ take-all (8 * length (c .gates)) (gatesBytes (c .gates)) (omega (arith, gates-length (c .gates)))
@@ -113,7 +113,7 @@ module _ (c : Circuit) (l : Legal c) where
       )
 
   ranges-back : rangesFit (circuitFile c) ≡ true
-  unfolding rangesFit
+  unfolding rangesFit countsFit
   ranges-back =
       let f : List ℕ = circuitFile c in
       rw (
@@ -181,7 +181,7 @@ module _ (f : List ℕ) (bytes : Bytes f) (c : Circuit) (a : Accepted f c) where
   -- the bodies are all that stands behind the table
   only-bodies : drop (tableLength 2) f ≡ bodyOf f 0 ++ bodyOf f 1
   only-bodies =
-      let l : Laid f = in-order .laid in
+      let l : Placed f = placed f (a .headed .entries) in
       let start : entryStart f 1 ≡ firstGate = omega (arith, l .first, l .second, in-order .head) in
       let last : length (drop (entryStart f 1) f) ≤ entryLength f 1 = omega (arith, length-drop (entryStart f 1) f, l .last) in
       let first : bodyOf f 0 ≡ take headLength (drop (tableLength 2) f) = ap₂ (λ (n at : ℕ). take n (drop at f)) (in-order .head) (l .first) in

@@ -1,5 +1,5 @@
 -- Laws of reading a circuit file: what each test that held says. Assumes nothing.
-use Prim.Native.Nat.{ℕ, _+_, _/_, _%_, _≤_}
+use Prim.Native.Nat.{ℕ, _+_, _*_, _/_, _%_, _≤_}
 use native.Mathlib.Omega.{arith}
 use mathlib.Core.Path.{_≡_, refl, sym, ap, ap₂, _∙_}
 use mathlib.Core.Bool.{Bool, true, _&&_}
@@ -9,24 +9,30 @@ use lib.Dec.{eqb, leb}
 use borrow.Author.Tests.{eqb-true, leb-true}
 use Rattle.wire.specs.Answers.{Answer, result, check}
 use Rattle.wire.specs.Checks.{lowest}
-use Rattle.wire.specs.Contents.{tableLength, tableFits, entriesFit, entryLength, bodyOf}
+use Rattle.wire.specs.Contents.{tableLength, tableFits, entriesFit, entryStart, entryLength, bodyOf, Laid}
+use Rattle.wire.specs.Counts.{inputsOf, outputsOf, countsFit}
 use Rattle.wire.specs.declared.refusals.Refusal.the-variants as cause
 use Rattle.wire.proofs.AnswerLaws.{checked, checked-next, same-result}
 use Rattle.wire.proofs.CheckLaws.{both-first, both-second}
-use Rattle.wire.proofs.ContentsLaws.{table-whole, body-length, entry-first, entries-end}
+use Rattle.wire.proofs.ContentsLaws.{body-length, entry-first, entries-end, laid}
 use Rattle.gate.specs.GateBytes.{gateFits}
 use Rattle.circuit.specs.declared.reader.CircuitHead.{CircuitHead}
-use Rattle.circuit.specs.Circuits.{headLines}
+use Rattle.circuit.specs.Circuits.{headLines, InRange}
 use Rattle.circuit.specs.Format.{tags, headLength}
-use Rattle.circuit.specs.Layout.{Laid, Sized}
-use Rattle.circuit.specs.Reading.{inputsOf, outputsOf, workOf, gatesOf, lengthsFit, rangesFit, headIn, readHead}
+use Rattle.circuit.specs.Reading.{workOf, gatesOf, lengthsFit, rangesFit, headIn, readHead}
 
--- a file that passes cause 4
-pub record Ranged (f : List ℕ) : Type 0 where
-  pub inputs-most : inputsOf f ≤ 64
-  pub outputs-some : 1 ≤ outputsOf f
-  pub outputs-most : outputsOf f ≤ 64
-  pub work-most : workOf f ≤ 1024
+-- a file that passes causes 1 and 2: each body starts where the one before it ended, and the last ends with the file
+pub record Placed (f : List ℕ) : Type 0 where
+  pub first : entryStart f 0 ≡ tableLength 2
+  pub second : entryStart f 1 ≡ entryStart f 0 + entryLength f 0
+  pub last : entryStart f 1 + entryLength f 1 ≡ length f
+
+-- and cause 3
+pub record Sized (f : List ℕ) : Type 0 where
+  pub laid : Laid 2 f
+  pub head : entryLength f 0 ≡ headLength
+  pub eights : entryLength f 1 ≡ 8 * gatesOf f
+  pub most : gatesOf f ≤ 8000
 
 module _ (f : List ℕ) where
   -- the tests of causes 3 and 4, put together step by step
@@ -38,15 +44,11 @@ module _ (f : List ℕ) where
   lengths-tests p₀ p₁ t₁ t₀ =
       t₀ ∙ ap₂ _&&_ (ap (λ (e : ℕ). eqb e headLength) p₀) (t₁ ∙ ap (λ (e : ℕ). eqb (e % 8) 0 && leb (e / 8) 8000) p₁)
 
-  pub ranges-tests : {n m w : ℕ} {targets rest r : Bool} → n ≡ inputsOf f → m ≡ outputsOf f → w ≡ workOf f
-      → targets ≡ (leb 1 m && leb m 64)
-      → rest ≡ (targets && leb w 1024)
-      → r ≡ (leb n 64 && rest)
+  pub ranges-tests : {w : ℕ} {counts r : Bool} → counts ≡ countsFit (bodyOf f 0) → w ≡ workOf f
+      → r ≡ (counts && leb w 1024)
       → r ≡ rangesFit f
   unfolding rangesFit
-  ranges-tests pn pm pw t₂ t₁ t₀ =
-      let outputs = t₂ ∙ ap (λ (m : ℕ). leb 1 m && leb m 64) pm in
-      t₀ ∙ ap₂ _&&_ (ap (λ (n : ℕ). leb n 64) pn) (t₁ ∙ ap₂ _&&_ outputs (ap (λ (w : ℕ). leb w 1024) pw))
+  ranges-tests pc pw t = t ∙ ap₂ _&&_ pc (ap (λ (w : ℕ). leb w 1024) pw)
 
   -- the numbers of the head, each as it was read
   pub head-read : {n m w g : ℕ} → n ≡ inputsOf f → m ≡ outputsOf f → w ≡ workOf f → g ≡ gatesOf f
@@ -54,22 +56,19 @@ module _ (f : List ℕ) where
   unfolding headIn
   head-read pn pm pw pg = rw (pn, pm, pw, pg) refl
 
-  -- causes 1 and 2 passed
-  pub laid : tableFits 2 f ≡ true → entriesFit tags f ≡ true → Laid f
+  pub placed : entriesFit tags f ≡ true → Placed f
   unfolding entriesFit
-  laid t e =
+  placed e =
       let a = entry-first 17 (18 ∷ []) 0 (tableLength 2) f e in
       let b = entry-first 18 [] 1 (tableLength 2 + entryLength f 0) f (a .behind) in
       let z = entries-end 2 (tableLength 2 + entryLength f 0 + entryLength f 1) f (b .behind) in
       record {
-        whole = table-whole 2 f t;
         first = a .starts;
         second = omega (arith, a .starts, b .starts);
         last = omega (arith, b .starts, z);
       }
 
-  -- and cause 3
-  pub sized : Laid f → lengthsFit f ≡ true → Sized f
+  pub sized : Laid 2 f → lengthsFit f ≡ true → Sized f
   unfolding lengthsFit
   sized l e =
       let head : Bool = eqb (entryLength f 0) headLength in
@@ -84,37 +83,38 @@ module _ (f : List ℕ) where
         most = leb-true (gatesOf f) 8000 (both-second eights most gates);
       }
 
-  -- and cause 4
-  pub ranged : rangesFit f ≡ true → Ranged f
-  unfolding rangesFit
-  ranged e =
+  -- the numbers of a file that passes cause 4
+  pub ranged : gatesOf f ≤ 8000 → rangesFit f ≡ true → InRange (headIn f)
+  unfolding rangesFit countsFit headIn
+  ranged few e =
       let n : Bool = leb (inputsOf f) 64 in
       let m₁ : Bool = leb 1 (outputsOf f) in
       let m₂ : Bool = leb (outputsOf f) 64 in
       let w : Bool = leb (workOf f) 1024 in
-      let rest : ((m₁ && m₂) && w) ≡ true = both-second n ((m₁ && m₂) && w) e in
-      let m : (m₁ && m₂) ≡ true = both-first (m₁ && m₂) w rest in
+      let counts : (n && (m₁ && m₂)) ≡ true = both-first (n && (m₁ && m₂)) w e in
+      let m : (m₁ && m₂) ≡ true = both-second n (m₁ && m₂) counts in
       record {
-        inputs-most = leb-true (inputsOf f) 64 (both-first n ((m₁ && m₂) && w) e);
+        inputs-most = leb-true (inputsOf f) 64 (both-first n (m₁ && m₂) counts);
         outputs-some = leb-true 1 (outputsOf f) (both-first m₁ m₂ m);
         outputs-most = leb-true (outputsOf f) 64 (both-second m₁ m₂ m);
-        work-most = leb-true (workOf f) 1024 (both-second (m₁ && m₂) w rest);
+        work-most = leb-true (workOf f) 1024 (both-second (n && (m₁ && m₂)) w e);
+        gates-most = few;
       }
 
-  module _ (l : Laid f) where
+  module _ (l : Laid 2 f) where
     -- each body is as long as its entry says
     pub head-long : length (bodyOf f 0) ≡ entryLength f 0
-    head-long = body-length f 0 (omega (arith, l .second, l .last))
+    head-long = body-length f 0 (l .within 0 (omega arith))
 
     pub gates-long : length (bodyOf f 1) ≡ entryLength f 1
-    gates-long = body-length f 1 (omega (arith, l .last))
+    gates-long = body-length f 1 (l .within 1 (omega arith))
 
   -- a file whose head was read
   pub record Headed (h : CircuitHead) : Type 0 where
     pub table : tableFits 2 f ≡ true
     pub entries : entriesFit tags f ≡ true
     pub sized : Sized f
-    pub ranged : Ranged f
+    pub ranged : InRange h
     pub is : h ≡ headIn f
 
   pub headed : (h : CircuitHead) → readHead f ≡ result h → Headed h
@@ -128,12 +128,14 @@ module _ (f : List ℕ) where
       let e₄ : ranges ≡ result h = checked-next h (lengthsFit f) cause.BodyLength ranges e₃ in
       let first : tableFits 2 f ≡ true = checked h (tableFits 2 f) cause.Table entries e in
       let second : entriesFit tags f ≡ true = checked h (entriesFit tags f) cause.Contents lengths e₂ in
+      let order : Sized f = sized (laid tags f first second) (checked h (lengthsFit f) cause.BodyLength ranges e₃) in
+      let is : h ≡ headIn f = sym (same-result (headIn f) h (checked-next h (rangesFit f) cause.Range (result (headIn f)) e₄)) in
       record {
         table = first;
         entries = second;
-        sized = sized (laid first second) (checked h (lengthsFit f) cause.BodyLength ranges e₃);
-        ranged = ranged (checked h (rangesFit f) cause.Range (result (headIn f)) e₄);
-        is = sym (same-result (headIn f) h (checked-next h (rangesFit f) cause.Range (result (headIn f)) e₄));
+        sized = order;
+        ranged = rw is (ranged (order .most) (checked h (rangesFit f) cause.Range (result (headIn f)) e₄));
+        is = is;
       }
 
   module _ {h : CircuitHead} (a : Headed h) where
@@ -144,15 +146,7 @@ module _ (f : List ℕ) where
 
     -- there are at most 64 + 64 + 1,024 lines
     pub lines-most : headLines h ≤ 1152
-    unfolding headIn
-    lines-most =
-        omega (
-          arith,
-          ap headLines (a .is),
-          a .ranged .inputs-most,
-          a .ranged .outputs-most,
-          a .ranged .work-most,
-        )
+    lines-most = omega (arith, a .ranged .inputs-most, a .ranged .outputs-most, a .ranged .work-most)
 
     -- the lowest gate that the reader of the gates finds is the file's
     pub gates-lowest : {n : ℕ} {gates : List ℕ} → n ≡ headLines h → gates ≡ bodyOf f 1

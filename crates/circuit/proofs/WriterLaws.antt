@@ -4,29 +4,29 @@ use native.Mathlib.Omega.{arith}
 use native.Mathlib.Nat.{zero-add}
 use mathlib.Core.Path.{_≡_, refl, sym, ap, _∙_}
 use mathlib.Core.List.{List, [], _∷_, _++_, append-nil}
-use lib.ListN.{length, set, drop, replicate, length-append, length-set, drop-of-length-le}
+use lib.ListN.{length, set, drop, replicate, length-append, length-replicate, getD-replicate, drop-of-length-le}
 use lib.Seq.{sets, length-sets, sets-eq}
-use borrow.Author.Fill.{fill-none, fill-more}
 use Rattle.wire.specs.Answers.{result}
 use Rattle.wire.specs.Bytes.{bytes16}
 use Rattle.wire.specs.Contents.{tableLength, contentsBytes, total, Writable}
+use Rattle.wire.proofs.FillLaws.{Filled, filled-next, filled-all}
 use Rattle.wire.proofs.ListLaws.{sets-then}
 use Rattle.wire.proofs.WrittenLaws.{contents-length}
 use Rattle.gate.specs.declared.gates.Gate.{Gate}
 use Rattle.gate.specs.GateBytes.{gateBytes, gatesBytes}
 use Rattle.gate.proofs.ByteLaws.{gates-length, gates-append}
 use Rattle.circuit.specs.declared.reader.CircuitHead.{CircuitHead}
-use Rattle.circuit.specs.Circuits.{Circuit, headOf}
-use Rattle.circuit.specs.Format.{tags, headLength, firstGate, fileLength, headBytes, openingBytes, circuitFile, putGates, areaAfter, Small}
+use Rattle.circuit.specs.Circuits.{Circuit, headOf, InRange}
+use Rattle.circuit.specs.Format.{tags, headLength, firstGate, fileLength, headBytes, openingBytes, circuitFile, putGates, areaAfter}
 
 -- the lengths of the two bodies
 abbrev lengths : CircuitHead → List ℕ
 lengths h = headLength ∷ 8 * h .gates ∷ []
 
 -- the table of contents of a circuit file can be written
-pub writable : (h : CircuitHead) (room : ℕ) → Small h → fileLength 0 ≤ room → Writable tags (lengths h) room
+pub writable : (h : CircuitHead) (room : ℕ) → InRange h → fileLength 0 ≤ room → Writable tags (lengths h) room
 unfolding total
-writable h room s r = record { paired = refl; few = omega arith; fits = omega arith; small = omega (arith, s .gates-small) }
+writable h room s r = record { paired = refl; few = omega arith; fits = omega arith; small = omega (arith, s .gates-most) }
 
 -- the stores of the table and of the head's numbers, one after the other, are one run
 pub opening-stores : (l : List ℕ) (h : CircuitHead) {l₁ l₂ l₃ l₄ : List ℕ}
@@ -93,29 +93,22 @@ file-written area c room e₁ e₂ =
     ∙ sets-eq (circuitFile c) area 0 (omega (arith, file-length c))
     ∙ ap (λ (n : ℕ). circuitFile c ++ drop n area) (zero-add (length (circuitFile c)))
 
--- a loop has stored zero in the first i bytes
-pub record Cleared (area₀ area : List ℕ) (i : ℕ) : Type 0 where
-  pub within : i ≤ length area₀
-  pub same : length area ≡ length area₀
-  pub is : area ≡ replicate i 0 ++ drop i area₀
-
+-- a loop stores zero in every byte
 module _ (area₀ : List ℕ) where
-  pub cleared-start : Cleared area₀ area₀ 0
-  cleared-start = record { within = omega arith; same = refl; is = fill-none area₀ 0 }
+  abbrev pub zeros : List ℕ
+  zeros = replicate (length area₀) 0
 
-  pub cleared-next : {area : List ℕ} {i : ℕ} → Cleared area₀ area i → i < length area → Cleared area₀ (set area i 0) (i + 1)
-  cleared-next {area} {i} p h =
-      let below : i < length area₀ = omega (arith, p .same) in
-      record {
-        within = omega arith;
-        same = length-set area i 0 ∙ p .same;
-        is = ap (λ (l : List ℕ). set l i 0) (p .is) ∙ fill-more i 0 area₀ below;
-      }
+  zeros-count : length zeros ≡ length area₀
+  zeros-count = length-replicate {A = ℕ} (length area₀) 0
 
-  pub cleared-all : {area : List ℕ} {i : ℕ} → Cleared area₀ area i → length area ≤ i → area ≡ replicate (length area₀) 0
-  cleared-all {area} {i} p h =
-      let e : i ≡ length area₀ = omega (arith, p .within, p .same) in
-      p .is
-      ∙ ap (λ (n : ℕ). replicate n 0 ++ drop n area₀) e
-      ∙ ap (λ (l : List ℕ). replicate (length area₀) 0 ++ l) (drop-of-length-le area₀ {i = length area₀} (omega arith))
-      ∙ append-nil (replicate (length area₀) 0)
+  module _ {area : List ℕ} {i : ℕ} (p : Filled zeros area₀ area i) where
+    pub cleared-next : i < length area → Filled zeros area₀ (set area i 0) (i + 1)
+    cleared-next h =
+        let below : i < length area₀ = omega (arith, p .same) in
+        filled-next p (sym (getD-replicate (length area₀) i 0 0 below)) (omega (arith, zeros-count)) (omega (arith, zeros-count))
+
+    pub cleared-all : length area ≤ i → area ≡ zeros
+    cleared-all h =
+        filled-all p (omega (arith, zeros-count, p .same))
+        ∙ ap (λ (l : List ℕ). zeros ++ l) (drop-of-length-le area₀ {i = length zeros} (omega (arith, zeros-count)))
+        ∙ append-nil zeros

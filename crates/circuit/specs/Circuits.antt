@@ -15,14 +15,6 @@ pub record Circuit : Type 0 where
   pub work : ℕ
   pub gates : List Gate
 
--- how many lines a circuit has
-abbrev pub lineCount : Circuit → ℕ
-lineCount c = c .inputs + c .outputs + c .work
-
--- how many gates a circuit has
-abbrev pub gateCount : Circuit → ℕ
-gateCount c = length (c .gates)
-
 -- how many inputs, outputs, work lines and gates a circuit has
 abbrev pub headOf : Circuit → CircuitHead
 headOf c = record { inputs = c .inputs; outputs = c .outputs; work = c .work; gates = length (c .gates) }
@@ -31,13 +23,21 @@ headOf c = record { inputs = c .inputs; outputs = c .outputs; work = c .work; ga
 abbrev pub headLines : CircuitHead → ℕ
 headLines h = h .inputs + h .outputs + h .work
 
+-- how many lines a circuit has
+abbrev pub lineCount : Circuit → ℕ
+lineCount c = headLines (headOf c)
+
+-- a head whose numbers are within 01's limits
+pub record InRange (h : CircuitHead) : Type 0 where
+  pub inputs-most : h .inputs ≤ 64
+  pub outputs-some : 1 ≤ h .outputs
+  pub outputs-most : h .outputs ≤ 64
+  pub work-most : h .work ≤ 1024
+  pub gates-most : h .gates ≤ 8000
+
 -- a circuit that a file can hold: its numbers are in range, and every gate is well formed on its lines
 pub record Legal (c : Circuit) : Type 0 where
-  pub inputs-most : c .inputs ≤ 64
-  pub outputs-some : 1 ≤ c .outputs
-  pub outputs-most : c .outputs ≤ 64
-  pub work-most : c .work ≤ 1024
-  pub gates-most : length (c .gates) ≤ 8000
+  pub numbers : InRange (headOf c)
   pub formed : All (WellFormed (lineCount c)) (c .gates)
 
 -- the gates of a gate body

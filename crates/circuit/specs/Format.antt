@@ -1,5 +1,5 @@
 -- The bytes of a circuit file.
-use Prim.Native.Nat.{ℕ, _+_, _*_, _≤_}
+use Prim.Native.Nat.{ℕ, _+_, _*_}
 use mathlib.Core.Bool.{cond}
 use mathlib.Core.List.{List, [], _∷_, _++_}
 use lib.ListN.{length, drop, replicate}
@@ -50,10 +50,3 @@ putGates area k gs = sets area (fileLength k) (gatesBytes gs)
 abbrev pub areaAfter : Answer Circuit → List ℕ → List ℕ
 areaAfter (result c) area = circuitFile c ++ drop (length (circuitFile c)) area
 areaAfter (refused n p) area = cond (eqb n (numberOf (cause.Room p))) (replicate (length area) 0) area
-
--- a head whose numbers are small enough for their fields
-pub record Small (h : CircuitHead) : Type 0 where
-  pub inputs-small : h .inputs ≤ 64
-  pub outputs-small : h .outputs ≤ 64
-  pub work-small : h .work ≤ 1024
-  pub gates-small : h .gates ≤ 8000

@@ -7,6 +7,7 @@ use Rattle.wire.specs.Answers.{Answer, result, refuse, check, checkEach, andThe
 use Rattle.wire.specs.Bits.{bitsFit}
 use Rattle.wire.specs.Bytes.{at16}
 use Rattle.wire.specs.Contents.{tableFits, entriesFit, entryLength, bodyOf}
+use Rattle.wire.specs.Counts.{inputsOf, outputsOf, countsFit}
 use Rattle.wire.specs.Lists.{tabulate}
 use Rattle.wire.specs.declared.refusals.Refusal.the-variants as cause
 use Rattle.gate.specs.GateBytes.{gateAt, gateFits}
@@ -15,14 +16,6 @@ use Rattle.circuit.specs.declared.reader.CircuitRead.{CircuitRead}
 use Rattle.circuit.specs.declared.reader.CircuitRead.the-variants.{Good, Refused}
 use Rattle.circuit.specs.Circuits.{Circuit, lineCount, headLines}
 use Rattle.circuit.specs.Format.{tags, headLength}
-
--- the number of inputs, n, as read
-abbrev pub inputsOf : List ℕ → ℕ
-inputsOf f = at16 (bodyOf f 0) 0
-
--- the number of outputs, m, as read
-abbrev pub outputsOf : List ℕ → ℕ
-outputsOf f = at16 (bodyOf f 0) 2
 
 -- the number of work lines, w, as read
 abbrev pub workOf : List ℕ → ℕ
@@ -38,7 +31,7 @@ lengthsFit f = eqb (entryLength f 0) headLength && (eqb (entryLength f 1 % 8) 0 
 
 -- the test of cause 4: at most 64 inputs, 1 to 64 outputs, at most 1,024 work lines
 unfoldable pub rangesFit : List ℕ → Bool
-rangesFit f = leb (inputsOf f) 64 && ((leb 1 (outputsOf f) && leb (outputsOf f) 64) && leb (workOf f) 1024)
+rangesFit f = countsFit (bodyOf f 0) && leb (workOf f) 1024
 
 -- the numbers that a file in order holds
 unfoldable pub headIn : List ℕ → CircuitHead

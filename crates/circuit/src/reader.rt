@@ -9,6 +9,7 @@ use wire::contents::body;
 use wire::contents::entries_fit;
 use wire::contents::entry_length;
 use wire::contents::table_fits;
+use wire::counts::counts_fit;
 use wire::numbers::get16;
 use wire::refusals::Refusal;
 ghost use mathlib.Core.Path.{_≡_};
@@ -16,10 +17,10 @@ ghost use Prim.Native.Nat.{_/_, _≤_};
 ghost use lib.ListN.{length};
 ghost use Rattle.wire.specs.Answers.{mapAnswer};
 ghost use Rattle.wire.specs.Checks.{lowest};
-ghost use Rattle.wire.specs.Contents.{bodyOf};
+ghost use Rattle.wire.specs.Contents.{entryLength, bodyOf, Laid};
 ghost use Rattle.gate.specs.GateBytes.{gateFits};
 ghost use Rattle.circuit.specs.Circuits.{headOf, headLines};
-ghost use Rattle.circuit.specs.Layout.{Laid, Sized};
+ghost use Rattle.circuit.specs.Format.{headLength};
 ghost use Rattle.circuit.specs.Reading.{lengthsFit, rangesFit, headIn, readHead, readCircuit, readWithLines, circuitRead};
 
 // How many inputs, outputs, work lines and gates a circuit has.
@@ -46,7 +47,7 @@ fn line_count(head: CircuitHead) -> usize
 
 // Whether the bodies have the lengths that their layout asks for.
 fn lengths_fit(file: &[u8]) -> bool
-    requires { ⌜ Laid (now file) ⌝ }
+    requires { ⌜ Laid 2 (now file) ⌝ }
     ensures { λ r. ⌜ r ≡ lengthsFit (now (file .entry)) ⌝ }
 {
     let head = entry_length(file, 0) as usize == HEAD_LENGTH;
@@ -56,18 +57,16 @@ fn lengths_fit(file: &[u8]) -> bool
 
 // Whether the numbers of inputs, outputs and work lines are in range.
 fn ranges_fit(file: &[u8]) -> bool
-    requires { ⌜ Sized (now file) ⌝ }
+    requires { ⌜ Laid 2 (now file) × (entryLength (now file) 0 ≡ headLength) ⌝ }
     ensures { λ r. ⌜ r ≡ rangesFit (now (file .entry)) ⌝ }
 {
     let head = body(file, 0);
-    let outputs = get16(head, 2);
-    let targets = both(1 <= outputs, outputs <= 64);
-    both(get16(head, 0) <= 64, both(targets, get16(head, 4) <= 1024))
+    both(counts_fit(head), get16(head, 4) <= 1024)
 }
 
 // The numbers that the head and the length of the gate body give.
 fn head_in(file: &[u8]) -> CircuitHead
-    requires { ⌜ Sized (now file) ⌝ }
+    requires { ⌜ Laid 2 (now file) × (entryLength (now file) 0 ≡ headLength) ⌝ }
     ensures { λ r. ⌜ r ≡ headIn (now (file .entry)) ⌝ }
 {
     let head = body(file, 0);
@@ -100,7 +99,7 @@ pub fn read_head(file: &[u8]) -> CircuitRead
 
 // The gate body of a file.
 pub fn gate_body(file: &[u8]) -> &[u8]
-    requires { ⌜ Laid (now file) ⌝ }
+    requires { ⌜ Laid 2 (now file) ⌝ }
     ensures { λ r. ⌜ now r ≡ bodyOf (now (file .entry)) 1 ⌝ }
 {
     body(file, 1)

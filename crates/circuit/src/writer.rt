@@ -11,11 +11,12 @@ ghost use mathlib.Core.List.{_∷_, []};
 ghost use Prim.Native.Nat.{_+_, _≤_};
 ghost use lib.ListN.{length, replicate};
 ghost use lib.Seq.{sets};
-ghost use Rattle.circuit.specs.Format.{openingBytes, putGates, fileLength, Small};
+ghost use Rattle.circuit.specs.Circuits.{InRange};
+ghost use Rattle.circuit.specs.Format.{openingBytes, putGates, fileLength};
 
 // Stores everything of a circuit file that stands before its first gate.
 pub fn write_head(area: &mut [u8], head: CircuitHead)
-    requires { ⌜ Small head × (fileLength 0 ≤ length (now area)) ⌝ }
+    requires { ⌜ InRange head × (fileLength 0 ≤ length (now area)) ⌝ }
     ensures { λ _. ⌜ now (area .exit) ≡ sets (now (area .entry)) 0 (openingBytes head) ⌝ }
 {
     let lengths = [HEAD_LENGTH as u32, 8 * (head.gates as u32)];

@@ -17,7 +17,8 @@ use Rattle.program.specs.declared.node.Node.the-variants.{Input, Xor, And}
 use Rattle.program.specs.Exprs.{size}
 use Rattle.program.specs.Nodes.{operandsFit, nodeAt, nodeFits}
 use Rattle.program.specs.Programs.{Program, outputTree}
-use Rattle.program.specs.Reading.{lengthsFit, rangesFit, outputFits, programOf, readBodies, readProgram}
+use Rattle.wire.specs.Counts.{countsFit}
+use Rattle.program.specs.Reading.{lengthsFit, outputFits, programOf, readBodies, readProgram}
 use Rattle.program.specs.Trees.{treeOf, treesFrom, trees}
 use Rattle.construction.specs.Construction.{held, most, second, build, share, shares, circuit, linesNeeded}
 use Rattle.construction.specs.Counting.{gatesShown}
@@ -66,5 +67,5 @@ pub record WholeCase : Type 0 where
   pub cleared : left 2 (9 ∷ 9 ∷ 9 ∷ []) (replicate 67 9) .area ≡ replicate 67 0
 
 pub whole-case : WholeCase
-unfolding compileOf compileFile readWithSizes compileProgram gatesShown nodeSizes shown readProgram readBodies tableFits entriesFit entriesFrom lengthsFit rangesFit nodeFits operandsFit outputFits programOf nodeAt lowestFrom size circuitFile openingBytes contentsBytes entriesBytes gatesBytes gateBytes programCircuit outputTrees outputTree tabulateFrom trees treesFrom treeOf circuit shares share build held most second linesNeeded undo without target
+unfolding compileOf compileFile readWithSizes compileProgram gatesShown nodeSizes shown readProgram readBodies tableFits entriesFit entriesFrom lengthsFit countsFit nodeFits operandsFit outputFits programOf nodeAt lowestFrom size circuitFile openingBytes contentsBytes entriesBytes gatesBytes gateBytes programCircuit outputTrees outputTree tabulateFrom trees treesFrom treeOf circuit shares share build held most second linesNeeded undo without target
 whole-case = record { accepted = refl; sizes = refl; behind = refl; short = refl; cleared = refl }

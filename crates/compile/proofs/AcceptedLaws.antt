@@ -79,11 +79,14 @@ module _ (f : List ℕ) (grant : ℕ) (sizes area : List ℕ) (h : CircuitHead) 
     legal =
         let p : Program = programOf f in
         record {
-          inputs-most = omega (arith, program.inputs-is f (a .reads), a .reads .inputs-most);
-          outputs-some = omega (arith, program.outputs-length f (a .reads), a .reads .outputs-some);
-          outputs-most = omega (arith, program.outputs-length f (a .reads), a .reads .outputs-most);
-          work-most = omega (arith, a .passes .work-granted, a .passes .grant-most);
-          gates-most = a .passes .gates-most;
+          numbers =
+              record {
+                inputs-most = omega (arith, program.inputs-is f (a .reads), a .reads .inputs-most);
+                outputs-some = omega (arith, program.outputs-length f (a .reads), a .reads .outputs-some);
+                outputs-most = omega (arith, program.outputs-length f (a .reads), a .reads .outputs-most);
+                work-most = omega (arith, a .passes .work-granted, a .passes .grant-most);
+                gates-most = a .passes .gates-most;
+              };
           formed = rw (trees-length p) at (circuit-formed (p .inputs) (outputTrees p) (trees-inputs f (a .reads)));
         }
 

@@ -8,13 +8,14 @@ use Rattle.wire.specs.Contents.{bodyOf}
 use Rattle.wire.specs.Lists.{tabulate}
 use Rattle.wire.proofs.ListLaws.{tabulate-same}
 use Rattle.circuit.specs.declared.reader.CircuitHead.{CircuitHead}
-use Rattle.circuit.specs.Circuits.{gateCount}
+use Rattle.circuit.specs.Circuits.{InRange}
 use Rattle.circuit.specs.Format.{fileLength}
 use Rattle.program.specs.declared.node.Node.{Node}
 use Rattle.program.specs.Exprs.{Expr, ZERO, size}
 use Rattle.program.specs.Nodes.{nodesIn}
 use Rattle.program.specs.Programs.{outputTree}
-use Rattle.program.specs.Reading.{inputsOf, outputAt, programOf}
+use Rattle.wire.specs.Counts.{inputsOf}
+use Rattle.program.specs.Reading.{outputAt, programOf}
 use Rattle.program.specs.Trees.{trees, TableOk}
 use Rattle.program.proofs.AcceptedLaws.{Accepted, same-nodes, outputs-length, output-is, table-ok}
 use Rattle.program.proofs.ReadingLaws.{nodes-counted, outputs-counted}
@@ -26,7 +27,6 @@ use Rattle.construct.specs.Counters.{AllCountable, Needed}
 use Rattle.construct.specs.Tables.{treeIn, treesIn}
 use Rattle.construct.specs.Writing.{Writable}
 use Rattle.compile.specs.Compiling.{outputTrees, programCircuit}
-use Rattle.compile.specs.Steps.{Fitting}
 
 module _ (f : List ℕ) (a : Accepted f) where
   pub outputs-count : length (bodyOf f 2) / 2 ≡ length (programOf f .outputs)
@@ -73,7 +73,7 @@ module _ (f : List ℕ) (a : Accepted f) where
     unfolding programCircuit
     lines-counted = n .lines-are ∙ ap linesNeeded trees-same
 
-    pub gates-counted : r .gates ≡ gatesShown (gateCount (programCircuit (programOf f)))
+    pub gates-counted : r .gates ≡ gatesShown (length (programCircuit (programOf f) .gates))
     unfolding programCircuit
     gates-counted =
         n .gates-are
@@ -81,21 +81,20 @@ module _ (f : List ℕ) (a : Accepted f) where
         ∙ ap gatesShown (sym (circuit-length (programOf f .inputs) (outputTrees (programOf f))))
 
   -- a head whose numbers are in range fits, with the program's gates, into an area that is long enough
-  pub fitting : (h : CircuitHead) (area : List ℕ) → h .inputs ≡ inputsOf f → h .outputs ≤ 64 → h .work ≤ 1024 → h .gates ≤ 8000
-      → programCircuit (programOf f) .work ≤ 1024 → fileLength (gateCount (programCircuit (programOf f))) ≤ length area → Fitting (bodyOf f 1) (bodyOf f 2) h area
+  pub fitting : (h : CircuitHead) (area : List ℕ) → h .inputs ≡ inputsOf f → 1 ≤ h .outputs → h .outputs ≤ 64 → h .work ≤ 1024 → h .gates ≤ 8000
+      → programCircuit (programOf f) .work ≤ 1024 → fileLength (length (programCircuit (programOf f) .gates)) ≤ length area → InRange h × Writable (bodyOf f 1) (bodyOf f 2) (h .inputs) area
   unfolding programCircuit
-  fitting h area n m w g lines room =
+  fitting h area n some most w g lines room =
       let length-is : length (circuit (programOf f .inputs) (outputTrees (programOf f))) ≡ sharesCount (outputTrees (programOf f)) = circuit-length (programOf f .inputs) (outputTrees (programOf f)) in
-      record {
-        small = record { inputs-small = omega (arith, a .inputs-most); outputs-small = m; work-small = w; gates-small = g };
-        writable =
-            record {
-              ordered = rw n nodes-ordered;
-              named = names-node;
-              lines = omega (arith, n, a .inputs-most, a .outputs-most, outputs-counted f (a .sized), ap linesNeeded trees-same);
-              room = omega (arith, ap sharesCount trees-same, length-is);
-            };
-      }
+      (
+        record { inputs-most = omega (arith, a .inputs-most); outputs-some = some; outputs-most = most; work-most = w; gates-most = g },
+        record {
+          ordered = rw n nodes-ordered;
+          named = names-node;
+          lines = omega (arith, n, a .inputs-most, a .outputs-most, outputs-counted f (a .sized), ap linesNeeded trees-same);
+          room = omega (arith, ap sharesCount trees-same, length-is);
+        },
+      )
 
 -- an area of the same length can be written as well
 pub writable-same : {nodes outputs area after : List ℕ} {n : ℕ} → Writable nodes outputs n area → length after ≡ length area → Writable nodes outputs n after

@@ -12,7 +12,6 @@ use Rattle.wire.specs.Answers.{Answer, result, refused, refuse, check, andThen,
 use Rattle.wire.specs.Checks.{allBelow, lowest}
 use Rattle.wire.specs.Contents.{tableFits, entriesFit, bodyOf}
 use Rattle.wire.specs.declared.refusals.Refusal.the-variants as cause
-use Rattle.wire.proofs.AnswerLaws.{Never, never-result, never-check}
 use Rattle.circuit.specs.declared.reader.CircuitHead.{CircuitHead}
 use Rattle.circuit.specs.Circuits.{Circuit, headOf}
 use Rattle.circuit.specs.Format.{areaAfter}
@@ -20,30 +19,14 @@ use Rattle.program.specs.declared.node.Node.{Node}
 use Rattle.program.specs.declared.reader.Head.{Head}
 use Rattle.program.specs.Nodes.{nodeFits, nodesIn}
 use Rattle.program.specs.Programs.{Program}
-use Rattle.program.specs.Reading.{tags, inputsOf, outputsOf, nodesOf, lengthsFit, rangesFit, outputFits, programOf, readBodies, readProgram}
-use Rattle.program.proofs.AcceptedLaws.{Read, nodes-length, same-nodes}
+use Rattle.program.specs.Reading.{programOf, readProgram}
+use Rattle.program.proofs.AcceptedLaws.{Read, reader-room, nodes-length, same-nodes}
 use Rattle.program.proofs.ReadingLaws.{nodes-counted}
-use Rattle.sizing.specs.Sizing.{nodeSizes, Sizeable}
-use Rattle.compile.specs.Steps.{Listed}
+use Rattle.sizing.specs.Sizing.{nodeSizes}
+use Rattle.program.specs.Trees.{Fillable}
+use Rattle.wire.specs.Counts.{inputsOf}
 use Rattle.compile.proofs.BodyLaws.{nodes-ordered}
-use Rattle.compile.specs.Compiling.{compileProgram, readWithSizes, compileFile, sizesAfter, compileOf}
-
--- reading a program never finds that there is no room
-reader-room : (f : List ℕ) → Never 11 (readProgram f)
-unfolding readProgram readBodies
-reader-room f =
-    let read : Answer Program = result (programOf f) in
-    let outputs : Answer Program = check (allBelow (outputFits (nodesOf f) (bodyOf f 2)) (outputsOf f)) (cause.Output (lowest (outputFits (nodesOf f) (bodyOf f 2)) (outputsOf f))) read in
-    let ranges : Answer Program = check (rangesFit f) cause.Range (readBodies f) in
-    let lengths : Answer Program = check (lengthsFit f) cause.BodyLength ranges in
-    let entries : Answer Program = check (entriesFit tags f) cause.Contents lengths in
-    never-check 11 (tableFits 3 f) cause.Table entries (omega arith)
-    (never-check 11 (entriesFit tags f) cause.Contents lengths (omega arith)
-    (never-check 11 (lengthsFit f) cause.BodyLength ranges (omega arith)
-    (never-check 11 (rangesFit f) cause.Range (readBodies f) (omega arith)
-    (never-check 11 (allBelow (nodeFits (inputsOf f) (bodyOf f 1)) (nodesOf f)) (cause.Node (lowest (nodeFits (inputsOf f) (bodyOf f 1)) (nodesOf f))) outputs (omega arith)
-    (never-check 11 (allBelow (outputFits (nodesOf f) (bodyOf f 2)) (outputsOf f)) (cause.Output (lowest (outputFits (nodesOf f) (bodyOf f 2)) (outputsOf f))) read (omega arith)
-    (never-result 11 (programOf f)))))))
+use Rattle.compile.specs.Compiling.{compileProgram, readWithSizes, compileFile, sizesAfter, compileOf, Listed}
 
 module _ (f : List ℕ) (grant : ℕ) (sizes area : List ℕ) where
   -- the answer a, the size list l and the area at exit are those of the service's definition
@@ -98,13 +81,12 @@ module _ (f : List ℕ) (grant : ℕ) (sizes area : List ℕ) where
 
 -- the nodes of a program that was read have sizes, and the list then holds them
 module _ {f : List ℕ} {h : Head} (r : Read f h) where
-  pub sizeable : {entries : ℕ} → h .nodes ≤ entries → Sizeable (bodyOf f 1) entries
+  pub sizeable : {entries : ℕ} → h .nodes ≤ entries → (n : ℕ) × Fillable n (bodyOf f 1) entries
   sizeable s =
-      record {
-        inputs = inputsOf f;
+      (inputsOf f, record {
         ordered = nodes-ordered f (r .accepts);
         fits = omega (arith, nodes-counted f (r .accepts .sized), nodes-length f (r .accepts), ap (λ (t : Head). t .nodes) (r .head));
-      }
+      })
 
   pub listed : (old : List ℕ) {new : List ℕ} → new ≡ nodeSizes (nodesIn (bodyOf f 1)) ++ drop (length (bodyOf f 1) / 6) old → Listed f h new
   listed old e = record { reads = r .accepts .is; numbers = r .head; later = drop (length (bodyOf f 1) / 6) old; listed = e ∙ ap (λ (ns : List Node). nodeSizes ns ++ drop (length (bodyOf f 1) / 6) old) (same-nodes f (r .accepts)) }

@@ -13,7 +13,7 @@ use Rattle.wire.specs.declared.refusals.Refusal.{Refusal}
 use Rattle.wire.specs.declared.refusals.Refusal.the-variants as cause
 use Rattle.wire.proofs.AnswerLaws.{checked, checked-next}
 use Rattle.wire.proofs.CheckLaws.{by-test, both-first, both-second, all-below, below-all}
-use Rattle.circuit.specs.Circuits.{Circuit, gateCount}
+use Rattle.circuit.specs.Circuits.{Circuit}
 use Rattle.circuit.specs.Format.{fileLength, circuitFile}
 use Rattle.circuit.proofs.WriterLaws.{file-length}
 use Rattle.program.specs.Exprs.{size}
@@ -31,7 +31,7 @@ AllSmall p = (k : ℕ) → k < length (p .outputs) → size (outputTree p k) ≤
 
 -- the test of cause 11
 abbrev roomFits : Program → ℕ → Bool
-roomFits p room = leb (gateCount (programCircuit p)) 8000 && leb (length (circuitFile (programCircuit p))) room
+roomFits p room = leb (length (programCircuit p .gates)) 8000 && leb (length (circuitFile (programCircuit p))) room
 
 module _ (p : Program) where
   -- where the test of cause 8 fails at no output, every output is small enough
@@ -61,23 +61,23 @@ module _ (p : Program) (grant room : ℕ) where
       lines-short h = rw (small-all p small, le-leb grant 1024 allowed, lt-leb (programCircuit p .work) grant h) refl
 
       module _ (enough : programCircuit p .work ≤ grant) where
-        room-bad : roomFits p room ≡ false → compileProgram p grant room ≡ refuse (cause.Room (gatesShown (gateCount (programCircuit p))))
+        room-bad : roomFits p room ≡ false → compileProgram p grant room ≡ refuse (cause.Room (gatesShown (length (programCircuit p .gates))))
         unfolding compileProgram
         room-bad e = rw (small-all p small, le-leb grant 1024 allowed, le-leb (programCircuit p .work) grant enough, e) refl
 
         -- there are more gates than a file may hold
-        pub gates-many : 8000 < gateCount (programCircuit p) → compileProgram p grant room ≡ refuse (cause.Room (gatesShown (gateCount (programCircuit p))))
-        gates-many h = room-bad (rw (lt-leb (gateCount (programCircuit p)) 8000 h) refl)
+        pub gates-many : 8000 < length (programCircuit p .gates) → compileProgram p grant room ≡ refuse (cause.Room (gatesShown (length (programCircuit p .gates))))
+        gates-many h = room-bad (rw (lt-leb (length (programCircuit p .gates)) 8000 h) refl)
 
         -- or the area is too short for the file
-        pub area-short : room < fileLength (gateCount (programCircuit p)) → compileProgram p grant room ≡ refuse (cause.Room (gatesShown (gateCount (programCircuit p))))
+        pub area-short : room < fileLength (length (programCircuit p .gates)) → compileProgram p grant room ≡ refuse (cause.Room (gatesShown (length (programCircuit p .gates))))
         area-short h =
             let c : Circuit = programCircuit p in
-            by-test (leb (gateCount c) 8000)
+            by-test (leb (length (c .gates)) 8000)
             (λ few. room-bad (rw (few, lt-leb (length (circuitFile c)) room (omega (arith, file-length c))) refl))
             (λ many. room-bad (rw many refl))
 
-        pub fits : gateCount (programCircuit p) ≤ 8000 → fileLength (gateCount (programCircuit p)) ≤ room → compileProgram p grant room ≡ result (programCircuit p)
+        pub fits : length (programCircuit p .gates) ≤ 8000 → fileLength (length (programCircuit p .gates)) ≤ room → compileProgram p grant room ≡ result (programCircuit p)
         unfolding compileProgram
         fits few h =
             let c : Circuit = programCircuit p in
@@ -85,7 +85,7 @@ module _ (p : Program) (grant room : ℕ) where
               small-all p small,
               le-leb grant 1024 allowed,
               le-leb (c .work) grant enough,
-              le-leb (gateCount c) 8000 few,
+              le-leb (length (c .gates)) 8000 few,
               le-leb (length (circuitFile c)) room (omega (arith, file-length c)),
             )
 
@@ -94,8 +94,8 @@ pub record Passed (p : Program) (grant room : ℕ) : Type 0 where
   pub small : AllSmall p
   pub grant-most : grant ≤ 1024
   pub work-granted : programCircuit p .work ≤ grant
-  pub gates-most : gateCount (programCircuit p) ≤ 8000
-  pub file-fits : fileLength (gateCount (programCircuit p)) ≤ room
+  pub gates-most : length (programCircuit p .gates) ≤ 8000
+  pub file-fits : fileLength (length (programCircuit p .gates)) ≤ room
 
 module _ (p : Program) (grant room : ℕ) where
   -- a program that compiles passed every check
@@ -105,7 +105,7 @@ module _ (p : Program) (grant room : ℕ) where
       let d : Circuit = programCircuit p in
       let sizes : Bool = allBelow (sizeFits p) (length (p .outputs)) in
       let large : Refusal = cause.Size (lowest (sizeFits p) (length (p .outputs))) in
-      let full : Refusal = cause.Room (gatesShown (gateCount d)) in
+      let full : Refusal = cause.Room (gatesShown (length (d .gates))) in
       let file : Answer Circuit = check (roomFits p room) full (result d) in
       let lines : Answer Circuit = check (leb (d .work) grant) (cause.WorkLines (d .work)) file in
       let grants : Answer Circuit = check (leb grant 1024) cause.Grant lines in
@@ -113,13 +113,13 @@ module _ (p : Program) (grant room : ℕ) where
       let e₁₀ : lines ≡ result c = checked-next c (leb grant 1024) cause.Grant lines e₉ in
       let e₁₁ : file ≡ result c = checked-next c (leb (d .work) grant) (cause.WorkLines (d .work)) file e₁₀ in
       let held : roomFits p room ≡ true = checked c (roomFits p room) full (result d) e₁₁ in
-      let few : Bool = leb (gateCount d) 8000 in
+      let few : Bool = leb (length (d .gates)) 8000 in
       let there : Bool = leb (length (circuitFile d)) room in
       record {
         small = all-small p (eqb-true (lowest (sizeFits p) (length (p .outputs))) (length (p .outputs)) (checked c sizes large grants e));
         grant-most = leb-true grant 1024 (checked c (leb grant 1024) cause.Grant lines e₉);
         work-granted = leb-true (d .work) grant (checked c (leb (d .work) grant) (cause.WorkLines (d .work)) file e₁₀);
-        gates-most = leb-true (gateCount d) 8000 (both-first few there held);
+        gates-most = leb-true (length (d .gates)) 8000 (both-first few there held);
         file-fits = omega (arith, file-length d, leb-true (length (circuitFile d)) room (both-second few there held));
       }
 

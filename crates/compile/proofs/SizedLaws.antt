@@ -16,7 +16,7 @@ use Rattle.wire.specs.declared.refusals.Refusal.{Refusal}
 use Rattle.wire.specs.declared.refusals.Refusal.the-variants as cause
 use Rattle.wire.proofs.CheckLaws.{by-test, both-first, both-second, lowest-same}
 use Rattle.circuit.specs.declared.reader.CircuitHead.{CircuitHead}
-use Rattle.circuit.specs.Circuits.{Circuit, gateCount, headOf}
+use Rattle.circuit.specs.Circuits.{Circuit, headOf, InRange}
 use Rattle.circuit.specs.Format.{fileLength, openingBytes, circuitFile, putGates, areaAfter}
 use Rattle.circuit.proofs.WriterLaws.{file-written}
 use Rattle.gate.specs.declared.gates.Gate.{Gate}
@@ -25,7 +25,8 @@ use Rattle.program.specs.declared.reader.Head.{Head}
 use Rattle.program.specs.Exprs.{Expr, ZERO, size}
 use Rattle.program.specs.Nodes.{nodesIn}
 use Rattle.program.specs.Programs.{Program}
-use Rattle.program.specs.Reading.{inputsOf, outputAt, programOf}
+use Rattle.wire.specs.Counts.{inputsOf}
+use Rattle.program.specs.Reading.{outputAt, programOf}
 use Rattle.program.specs.Trees.{trees}
 use Rattle.program.proofs.AcceptedLaws.{Accepted, accepted, inputs-is, nodes-length, outputs-length, same-nodes}
 use Rattle.program.proofs.ReadingLaws.{nodes-counted}
@@ -35,9 +36,9 @@ use Rattle.construction.proofs.CountLaws.{shown-within, shown-over}
 use Rattle.construct.specs.declared.counter.Needs.{Needs}
 use Rattle.construct.specs.Counters.{AllCountable, Needed}
 use Rattle.construct.specs.Tables.{treesIn}
-use Rattle.compile.specs.Compiling.{programCircuit, compileProgram}
-use Rattle.sizing.specs.Sizing.{nodeSizes, entryFits, Named}
-use Rattle.compile.specs.Steps.{Listed, Fitting}
+use Rattle.compile.specs.Compiling.{programCircuit, compileProgram, Listed}
+use Rattle.construct.specs.Writing.{Writable}
+use Rattle.sizing.specs.Sizing.{nodeSizes, entryFits}
 use Rattle.compile.proofs.BodyLaws.{outputs-count, names-node, named-tree, trees-same, countable, lines-counted, gates-counted, fitting}
 use Rattle.compile.proofs.ProgramLaws.{sizeFits, AllSmall, all-small, too-large, grant-large, lines-short, gates-many, area-short, fits}
 use Rattle.sizing.proofs.SizeLaws.{sizes-length, sizes-lowest}
@@ -70,7 +71,7 @@ module _ {f : List ℕ} {h : Head} {sizes : List ℕ} (l : Listed f h sizes) whe
   outputs-are = ap (λ (t : Head). t .outputs) (l .numbers)
 
   -- every output names an entry of the size list
-  pub named : Named (bodyOf f 2) (length sizes)
+  pub named : (k : ℕ) → k < length (bodyOf f 2) / 2 → outputAt (bodyOf f 2) k < length sizes
   named k q =
       omega (
         arith,
@@ -124,15 +125,15 @@ module _ {f : List ℕ} {h : Head} {sizes : List ℕ} (l : Listed f h sizes) whe
 
           -- there is no room for the gates that are shown, so there is none for the gates
           no-room : (leb (needs .gates) 8000 && leb (fileLength (needs .gates)) (length area)) ≡ false
-              → compileProgram (programOf f) grant (length area) ≡ refuse (cause.Room (gatesShown (gateCount c)))
+              → compileProgram (programOf f) grant (length area) ≡ refuse (cause.Room (gatesShown (length (c .gates))))
           no-room q =
-              let shown : needs .gates ≡ gatesShown (gateCount c) = gates-counted f accepts n in
+              let shown : needs .gates ≡ gatesShown (length (c .gates)) = gates-counted f accepts n in
               by-test (leb (needs .gates) 8000)
               (λ few.
-              let is : gatesShown (gateCount c) ≡ gateCount c = shown-within (gateCount c) (omega (arith, shown, leb-true (needs .gates) 8000 few)) in
+              let is : gatesShown (length (c .gates)) ≡ length (c .gates) = shown-within (length (c .gates)) (omega (arith, shown, leb-true (needs .gates) 8000 few)) in
               let short : leb (fileLength (needs .gates)) (length area) ≡ false = sym (rw few refl) ∙ q in
               area-short (programOf f) grant (length area) small allowed work-granted (omega (arith, shown, is, leb-false (fileLength (needs .gates)) (length area) short)))
-              (λ many. gates-many (programOf f) grant (length area) small allowed work-granted (shown-over (gateCount c) (omega (arith, shown, leb-false (needs .gates) 8000 many))))
+              (λ many. gates-many (programOf f) grant (length area) small allowed work-granted (shown-over (length (c .gates)) (omega (arith, shown, leb-false (needs .gates) 8000 many))))
 
           pub room-refused : (leb (needs .gates) 8000 && leb (fileLength (needs .gates)) (length area)) ≡ false
               → Outcome (programOf f) grant area (refuse (cause.Room (needs .gates))) (replicate (length area) 0)
@@ -144,16 +145,16 @@ module _ {f : List ℕ} {h : Head} {sizes : List ℕ} (l : Listed f h sizes) whe
             pub few-gates : needs .gates ≤ 8000
             few-gates = leb-true (needs .gates) 8000 (both-first (leb (needs .gates) 8000) (leb (fileLength (needs .gates)) (length area)) q)
 
-            gates-are : needs .gates ≡ gateCount c
-            gates-are = gates-counted f accepts n ∙ shown-within (gateCount c) (omega (arith, gates-counted f accepts n, few-gates))
+            gates-are : needs .gates ≡ length (c .gates)
+            gates-are = gates-counted f accepts n ∙ shown-within (length (c .gates)) (omega (arith, gates-counted f accepts n, few-gates))
 
-            room : fileLength (gateCount c) ≤ length area
+            room : fileLength (length (c .gates)) ≤ length area
             room = omega (arith, gates-are, leb-true (fileLength (needs .gates)) (length area) (both-second (leb (needs .gates) 8000) (leb (fileLength (needs .gates)) (length area)) q))
 
             -- the gates fit under any head with these inputs whose numbers are in range
-            pub head-fits : (w g : ℕ) → w ≤ 1024 → g ≤ 8000 → Fitting (bodyOf f 1) (bodyOf f 2) (record { inputs = h .inputs; outputs = h .outputs; work = w; gates = g }) area
+            pub head-fits : (w g : ℕ) → w ≤ 1024 → g ≤ 8000 → InRange (record { inputs = h .inputs; outputs = h .outputs; work = w; gates = g }) × Writable (bodyOf f 1) (bodyOf f 2) (h .inputs) area
             head-fits w g few-lines few =
-                fitting f accepts _ area inputs-are (omega (arith, outputs-are, outputs-length f accepts, accepts .outputs-most)) few-lines few (omega (arith, work-granted)) room
+                fitting f accepts _ area inputs-are (omega (arith, outputs-are, outputs-length f accepts, accepts .outputs-some)) (omega (arith, outputs-are, outputs-length f accepts, accepts .outputs-most)) few-lines few (omega (arith, work-granted)) room
 
             head-is : _≡_ {A = CircuitHead} (record { inputs = h .inputs; outputs = h .outputs; work = needs .lines; gates = needs .gates }) (headOf c)
             unfolding programCircuit

@@ -1,5 +1,6 @@
 -- Compiling a program file, check by check in the order of 01's table.
 use Prim.Native.Nat.{ℕ}
+use mathlib.Core.Path.{_≡_}
 use mathlib.Core.Bool.{_&&_}
 use mathlib.Core.List.{List, _++_}
 use lib.ListN.{length, drop}
@@ -8,11 +9,13 @@ use Rattle.wire.specs.Answers.{Answer, result, refused, refuse, check, checkEac
 use Rattle.wire.specs.Lists.{tabulate}
 use Rattle.wire.specs.declared.refusals.Refusal.the-variants as cause
 use Rattle.circuit.specs.declared.reader.CircuitHead.{CircuitHead}
-use Rattle.circuit.specs.Circuits.{Circuit, gateCount, headOf}
+use Rattle.circuit.specs.Circuits.{Circuit, headOf}
 use Rattle.circuit.specs.Format.{circuitFile, areaAfter}
 use Rattle.program.specs.Exprs.{Expr, size}
 use Rattle.program.specs.Programs.{Program, outputTree}
-use Rattle.program.specs.Reading.{readProgram}
+use Rattle.program.specs.declared.reader.Head.{Head}
+use Rattle.program.specs.Programs as program
+use Rattle.program.specs.Reading.{programOf, readProgram}
 use Rattle.construction.specs.Construction.{circuit, linesNeeded}
 use Rattle.construction.specs.Counting.{gatesShown}
 use Rattle.compile.specs.declared.Compiled.{Compiled}
@@ -39,7 +42,7 @@ compileProgram p grant room =
     checkEach (λ k. leb (size (outputTree p k)) 16384) (length (p .outputs)) cause.Size  -- 8
     (check (leb grant 1024) cause.Grant  -- 9
     (check (leb (programCircuit p .work) grant) (cause.WorkLines (programCircuit p .work))  -- 10
-    (check (leb (gateCount (programCircuit p)) 8000 && leb (length (circuitFile (programCircuit p))) room) (cause.Room (gatesShown (gateCount (programCircuit p))))  -- 11
+    (check (leb (length (programCircuit p .gates)) 8000 && leb (length (circuitFile (programCircuit p))) room) (cause.Room (gatesShown (length (programCircuit p .gates))))  -- 11
     (result (programCircuit p)))))
 
 -- reading a program file that comes with a size list of so many entries
@@ -77,3 +80,10 @@ compileOf file grant sizes area =
 abbrev pub compiled : Compiled → Answer CircuitHead
 compiled (Written head) = result head
 compiled (Refused why) = refuse why
+
+-- a program file that was read, with its numbers and with its nodes' sizes at the front of the size list
+pub record Listed (file : List ℕ) (head : Head) (sizes : List ℕ) : Type 0 where
+  pub reads : readProgram file ≡ result (programOf file)
+  pub numbers : head ≡ program.headOf (programOf file)
+  pub later : List ℕ
+  pub listed : sizes ≡ nodeSizes (programOf file .nodes) ++ later

@@ -1,4 +1,3 @@
 pub mod Compiling
 pub mod Demand
 pub mod EndToEnd
-pub mod Steps

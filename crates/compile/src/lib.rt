@@ -21,14 +21,14 @@ ghost use lib.ListN.{length};
 ghost use lib.Dec.{leb};
 ghost use lib.Seq.{sets};
 ghost use Rattle.wire.specs.Answers.{mapAnswer};
-ghost use Rattle.circuit.specs.Circuits.{headOf};
+ghost use Rattle.circuit.specs.Circuits.{headOf, InRange};
 ghost use Rattle.circuit.specs.Format.{fileLength, openingBytes, putGates, areaAfter};
 ghost use Rattle.program.specs.Reading.{programOf};
 ghost use Rattle.construction.specs.Construction.{circuit};
 ghost use Rattle.construct.specs.Tables.{treesIn};
-ghost use Rattle.compile.specs.Compiling.{compileProgram, compileOf, compiled};
+ghost use Rattle.construct.specs.Writing.{Writable};
+ghost use Rattle.compile.specs.Compiling.{compileProgram, compileOf, compiled, Listed};
 ghost use Rattle.compile.specs.Demand.{Demand3};
-ghost use Rattle.compile.specs.Steps.{Listed, Fitting};
 
 // What compiling answers: the numbers of the circuit written.
 pub enum Compiled {
@@ -58,7 +58,7 @@ fn has_room(gates: usize, room: usize) -> bool
 
 // Stores the head and the shares of all outputs.
 fn write_circuit(nodes: &[u8], outputs: &[u8], head: CircuitHead, area: &mut [u8])
-    requires { ⌜ Fitting (now nodes) (now outputs) head (now area) ⌝ }
+    requires { ⌜ InRange head × Writable (now nodes) (now outputs) (head .inputs) (now area) ⌝ }
     ensures { λ _. ⌜ now (area .exit) ≡ putGates (sets (now (area .entry)) 0 (openingBytes head)) 0 (circuit (head .inputs) (treesIn (now (nodes .entry)) (now (outputs .entry)))) ⌝ }
 {
     write_head(area, head);

@@ -8,7 +8,7 @@ use lib.ListN.{length, getD, drop, List·getD-append}
 use lib.Dec.{leb}
 use borrow.Author.Tests.{le-leb, lt-leb, lt-ltb, le-ltb}
 use Rattle.wire.specs.Answers.{Answer, result, refused, refuse}
-use Rattle.wire.specs.Bits.{bit, bitsFit}
+use Rattle.wire.specs.Bits.{bitsFit, Bits}
 use Rattle.wire.specs.Contents.{bodyOf}
 use Rattle.wire.specs.declared.refusals.Refusal.the-variants as cause
 use Rattle.wire.proofs.BitLaws.{bits-count, bits-are}
@@ -17,13 +17,13 @@ use Rattle.program.specs.declared.reader.Head.{Head}
 use Rattle.program.specs.Exprs.{ZERO, value}
 use Rattle.program.specs.Nodes.{nodesIn}
 use Rattle.program.specs.Programs.{outputTree, outputValue, nodeValues}
-use Rattle.program.specs.Reading.{inputsOf, outputsOf, nodesOf, outputAt, programOf, readProgram}
-use Rattle.program.specs.Trees.{trees}
+use Rattle.wire.specs.Counts.{inputsOf, outputsOf}
+use Rattle.program.specs.Reading.{nodesOf, outputAt, programOf, readProgram}
+use Rattle.program.specs.Trees.{trees, Fillable}
 use Rattle.program.proofs.AcceptedLaws.{Read, nodes-length, same-nodes, outputs-length, output-is, inputs-is, table-ok}
 use Rattle.program.proofs.ReadingLaws.{nodes-counted, outputs-long}
 use Rattle.program.proofs.ValueLaws.{values-length, values-at}
-use Rattle.evaluate.specs.Evaluating.{evaluateProgram, evaluateFile, evaluateOf}
-use Rattle.evaluate.specs.Filling.{Fillable}
+use Rattle.evaluate.specs.Evaluating.{evaluateFile, evaluateOf}
 
 module _ (f list x : List ℕ) (k : ℕ) where
   -- the answer a and the value list l are those of the service's definition
@@ -56,13 +56,9 @@ module _ (f list x : List ℕ) (k : ℕ) where
     head-outputs : h .outputs ≡ length (programOf f .outputs)
     head-outputs = ap (λ (t : Head). t .outputs) (r .head)
 
-    program-is : evaluateFile f (length list) x k ≡ evaluateProgram (programOf f) (length list) x k
-    unfolding evaluateFile
-    program-is = rw (r .accepts .is) refl
-
     pub list-short : length list < h .nodes → Outcome (refuse cause.ListLength) list
-    unfolding evaluateProgram
-    list-short s = refuses 7 0 (program-is ∙ simp (lt-leb (length (programOf f .nodes)) (length list) (omega (arith, head-nodes))))
+    unfolding evaluateFile
+    list-short s = refuses 7 0 (simp (r .accepts .is, lt-leb (length (programOf f .nodes)) (length list) (omega (arith, head-nodes))))
 
     -- every check has passed
     pub record Ready : Type 0 where
@@ -77,23 +73,25 @@ module _ (f list x : List ℕ) (k : ℕ) where
     same-test = ap (λ (n : ℕ). bitsFit n x) (sym head-inputs)
 
     pub inputs-bad : h .nodes ≤ length list → bitsFit (h .inputs) x ≡ false → Outcome (refuse cause.InputBytes) list
-    unfolding evaluateProgram
-    inputs-bad room e = refuses 14 0 (program-is ∙ simp (fits room, same-test ∙ e))
+    unfolding evaluateFile
+    inputs-bad room e = refuses 14 0 (simp (r .accepts .is, fits room, same-test ∙ e))
 
     pub output-bad : h .nodes ≤ length list → bitsFit (h .inputs) x ≡ true → h .outputs ≤ k → Outcome (refuse cause.OutputNumber) list
-    unfolding evaluateProgram
-    output-bad room e s = refuses 15 0 (program-is ∙ simp (fits room, same-test ∙ e, le-ltb k (length (programOf f .outputs)) (omega (arith, head-outputs))))
+    unfolding evaluateFile
+    output-bad room e s = refuses 15 0 (simp (r .accepts .is, fits room, same-test ∙ e, le-ltb k (length (programOf f .outputs)) (omega (arith, head-outputs))))
 
     module _ (q : Ready) where
       -- the nodes can be evaluated
-      pub fillable : Fillable (bodyOf f 1) x (length list)
+      pub fillable : Fillable (length x) (bodyOf f 1) (length list)
       fillable =
           let n : length x ≡ inputsOf f = bits-count (h .inputs) x (q .bits) ∙ head-inputs ∙ inputs-is f (r .accepts) in
           record {
-            ok = rw (n, same-nodes f (r .accepts)) (table-ok f (r .accepts));
-            bits = bits-are (h .inputs) x (q .bits);
+            ordered = rw (n, same-nodes f (r .accepts)) (table-ok f (r .accepts));
             fits = omega (arith, nodes-counted f (r .accepts .sized), head-nodes, nodes-length f (r .accepts), q .room);
           }
+
+      pub input-bits : Bits x
+      input-bits = bits-are (h .inputs) x (q .bits)
 
       within : k < outputsOf f
       within = omega (arith, head-outputs, outputs-length f (r .accepts), q .output)
@@ -116,8 +114,8 @@ module _ (f list x : List ℕ) (k : ℕ) where
           ∙ ap (λ (i : ℕ). value (getD (trees (programOf f .nodes)) i ZERO) x) (sym (output-is f (r .accepts) k within))
 
       found : evaluateFile f (length list) x k ≡ result (record { bit = outputValue (programOf f) x k; values = nodeValues (programOf f .nodes) x })
-      unfolding evaluateProgram
-      found = program-is ∙ simp (fits (q .room), same-test ∙ q .bits, lt-ltb k (length (programOf f .outputs)) (omega (arith, head-outputs, q .output)))
+      unfolding evaluateFile
+      found = simp (r .accepts .is, fits (q .room), same-test ∙ q .bits, lt-ltb k (length (programOf f .outputs)) (omega (arith, head-outputs, q .output)))
 
       -- the answer is the output's value
       pub output-answered : evaluateOf f list x k .answer ≡ result (outputValue (programOf f) x k)

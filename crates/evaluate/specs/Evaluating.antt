@@ -6,7 +6,7 @@ use lib.Dec.{leb, ltb}
 use Rattle.wire.specs.Answers.{Answer, result, refused, refuse, check, andThen, mapAnswer}
 use Rattle.wire.specs.Bits.{bitsFit}
 use Rattle.wire.specs.declared.refusals.Refusal.the-variants as cause
-use Rattle.program.specs.Programs.{Program, outputValue, nodeValues}
+use Rattle.program.specs.Programs.{outputValue, nodeValues}
 use Rattle.program.specs.Reading.{readProgram}
 use Rattle.evaluate.specs.declared.Evaluated.{Evaluated}
 use Rattle.evaluate.specs.declared.Evaluated.the-variants.{Value, Refused}
@@ -16,17 +16,14 @@ pub record Found : Type 0 where
   pub bit : ℕ
   pub values : List ℕ
 
--- evaluating an output of a program, with room for so many values
-unfoldable pub evaluateProgram : Program → ℕ → List ℕ → ℕ → Answer Found
-evaluateProgram p room inputs output =
+-- evaluating an output of a program file, with room for so many values
+unfoldable pub evaluateFile : List ℕ → ℕ → List ℕ → ℕ → Answer Found
+evaluateFile file room inputs output =
+    andThen (readProgram file) (λ p.
     check (leb (length (p .nodes)) room) cause.ListLength  -- 7
     (check (bitsFit (p .inputs) inputs) cause.InputBytes  -- 14
     (check (ltb output (length (p .outputs))) cause.OutputNumber  -- 15
-    (result (record { bit = outputValue p inputs output; values = nodeValues (p .nodes) inputs }))))
-
--- evaluating an output of a program file
-unfoldable pub evaluateFile : List ℕ → ℕ → List ℕ → ℕ → Answer Found
-evaluateFile file room inputs output = andThen (readProgram file) (λ p. evaluateProgram p room inputs output)
+    (result (record { bit = outputValue p inputs output; values = nodeValues (p .nodes) inputs })))))
 
 -- the value list at exit: on a result the nodes' values, later entries as they were; on a refusal as it was
 abbrev pub filled : Answer Found → List ℕ → List ℕ

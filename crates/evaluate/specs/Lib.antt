@@ -1,2 +1,1 @@
 pub mod Evaluating
-pub mod Filling

@@ -7,13 +7,15 @@ ghost use mathlib.Core.Path.{_≡_};
 ghost use mathlib.Core.List.{_++_};
 ghost use Prim.Native.Nat.{_/_};
 ghost use lib.ListN.{length, drop};
-ghost use Rattle.evaluate.specs.Filling.{Valued, Fillable};
 ghost use Rattle.program.specs.Nodes.{nodesIn};
 ghost use Rattle.program.specs.Programs.{nodeValue, nodeValues};
+ghost use Rattle.program.specs.Trees.{NodeOk, Fillable};
+ghost use Rattle.wire.specs.Bits.{Bits};
 
 // The value of a node, where values has those of the nodes before it.
 fn node_value(node: Node, values: &[u8], inputs: &[u8]) -> u8
-    requires { ⌜ Valued node (now values) (now inputs) ⌝ }
+    requires { ⌜ NodeOk (length (now inputs)) (length (now values)) node ⌝ }
+    requires { ⌜ Bits (now values) × Bits (now inputs) ⌝ }
     ensures { λ r. ⌜ r ≡ nodeValue node (now (values .entry)) (now (inputs .entry)) ⌝ }
 {
     match node {
@@ -28,7 +30,7 @@ fn node_value(node: Node, values: &[u8], inputs: &[u8]) -> u8
 
 // Stores the value of each node of a node body at the node's index, each evaluated once.
 pub fn fill_values(nodes: &[u8], inputs: &[u8], values: &mut [u8])
-    requires { ⌜ Fillable (now nodes) (now inputs) (length (now values)) ⌝ }
+    requires { ⌜ Fillable (length (now inputs)) (now nodes) (length (now values)) × Bits (now inputs) ⌝ }
     ensures { λ _. ⌜ now (values .exit) ≡ nodeValues (nodesIn (now (nodes .entry))) (now (inputs .entry)) ++ drop (length (now (nodes .entry)) / 6) (now (values .entry)) ⌝ }
 {
     let mut i = 0;

@@ -12,9 +12,9 @@ use Rattle.wire.specs.Bits.{xorBit, bit, Bits}
 use Rattle.wire.proofs.BitLaws.{xor-bit, and-bit, xor-twice, bit-below}
 use Rattle.gate.specs.declared.gates.Gate.{Gate}
 use Rattle.gate.specs.declared.gates.Gate.the-variants.{Not, Cnot, Toffoli}
-use Rattle.gate.specs.Gates.{target, Controls, WellFormed, All}
+use Rattle.gate.specs.Gates.{target, Controls, WellFormed, All, Fits}
 use Rattle.gate.specs.Running.{addend, step, run, without, undo}
-use Rattle.gate.specs.Theorems.{Spares, Fits, BackwardsUndoes, ForwardsUndoes, Uncomputes}
+use Rattle.gate.specs.Theorems.{Spares, BackwardsUndoes, ForwardsUndoes, Uncomputes}
 use Rattle.gate.proofs.AllLaws.{all-reverse}
 use Rattle.gate.proofs.UndoLaws.{without-at, all-without}
 use Rattle.gate.proofs.WellFormedLaws.{target-below, target-free}

@@ -3,6 +3,7 @@ use Prim.Native.Nat.{ℕ}
 use mathlib.Core.Path.{_≡_}
 use mathlib.Core.Bool.{Bool, true, not, _&&_}
 use mathlib.Core.List.{List, [], _∷_}
+use lib.ListN.{length}
 use lib.Dec.{eqb, ltb}
 use Rattle.gate.specs.declared.gates.Gate.{Gate}
 use Rattle.gate.specs.declared.gates.Gate.the-variants.{Not, Cnot, Toffoli}
@@ -33,3 +34,7 @@ WellFormed L g = wellFormed L g ≡ true
 abbrev pub All : (Gate → Type 0) → List Gate → Type 0
 All P [] = Unit {0}
 All P (g ∷ gs) = P g × All P gs
+
+-- the gates are well formed on the lines of s
+abbrev pub Fits : List Gate → List ℕ → Type 0
+Fits gs s = All (WellFormed (length s)) gs

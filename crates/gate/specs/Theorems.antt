@@ -3,15 +3,10 @@ use Prim.Native.Nat.{ℕ}
 use mathlib.Core.Path.{_≡_}
 use mathlib.Core.Bool.{Bool, false}
 use mathlib.Core.List.{List, _++_}
-use lib.ListN.{length}
 use Rattle.wire.specs.Bits.{bit, Bits}
 use Rattle.gate.specs.declared.gates.Gate.{Gate}
-use Rattle.gate.specs.Gates.{Controls, WellFormed, All}
+use Rattle.gate.specs.Gates.{Controls, All, Fits}
 use Rattle.gate.specs.Running.{run, runBack, undo}
-
--- the gates are well formed on the lines of s
-abbrev pub Fits : List Gate → List ℕ → Type 0
-Fits gs s = All (WellFormed (length s)) gs
 
 -- running backwards undoes running forwards
 abbrev pub BackwardsUndoes : Type 0

@@ -20,12 +20,12 @@ ghost use mathlib.Core.Path.{_≡_};
 ghost use Prim.Native.Nat.{_≤_};
 ghost use lib.ListN.{length};
 ghost use Rattle.wire.specs.Answers.{result, refuse, mapAnswer};
-ghost use Rattle.circuit.specs.Circuits.{gateCount};
+ghost use Rattle.circuit.specs.Circuits.{Circuit};
 ghost use Rattle.circuit.specs.Format.{circuitFile, areaAfter, fileLength};
 ghost use Rattle.circuit.specs.Reading.{readCircuit};
 ghost use Rattle.run.specs.RunCircuit.{runForwards, runBackwards, linesAfter, done, ran};
 ghost use Rattle.undo.specs.UndoCircuit.{undoFile};
-ghost use Rattle.program.specs.Programs.{nodeCount};
+ghost use Rattle.program.specs.Programs.{Program};
 ghost use Rattle.program.specs.Reading.{readProgram};
 ghost use Rattle.evaluate.specs.Evaluating.{evaluateOf};
 ghost use Rattle.compile.specs.Compiling.{compileOf};
@@ -63,7 +63,7 @@ fn written(head: CircuitHead) -> OracleAnswer
 // Reads a program file; the value of a result is the number of nodes.
 #[no_mangle]
 pub extern "C" fn oracle_read_program(file: &[u8]) -> OracleAnswer
-    ensures { λ r. ⌜ r ≡ exported (mapAnswer nodeCount (readProgram (now (file .entry)))) ⌝ }
+    ensures { λ r. ⌜ r ≡ exported (mapAnswer (λ (p : Program). length (p .nodes)) (readProgram (now (file .entry)))) ⌝ }
 {
     match read_program(file) {
         ProgramRead::Good(head) => OracleAnswer {
@@ -97,7 +97,7 @@ pub extern "C" fn oracle_evaluate(
 // Reads a circuit file; the value of a result is the number of gates.
 #[no_mangle]
 pub extern "C" fn oracle_read_circuit(file: &[u8]) -> OracleAnswer
-    ensures { λ r. ⌜ r ≡ exported (mapAnswer gateCount (readCircuit (now (file .entry)))) ⌝ }
+    ensures { λ r. ⌜ r ≡ exported (mapAnswer (λ (c : Circuit). length (c .gates)) (readCircuit (now (file .entry)))) ⌝ }
 {
     match read_circuit(file) {
         CircuitRead::Good(head) => OracleAnswer {

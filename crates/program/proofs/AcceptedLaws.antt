@@ -10,10 +10,12 @@ use borrow.Author.Tests.{ltb-true, leb-true}
 use Rattle.wire.specs.Answers.{Answer, result, refuse, check, mapAnswer, numberOf, placeOf}
 use Rattle.wire.specs.Checks.{allBelow, lowest}
 use Rattle.wire.specs.Contents.{tableFits, entriesFit, bodyOf}
+use Rattle.wire.specs.Counts.{inputsOf, outputsOf, countsFit}
 use Rattle.wire.specs.Lists.{tabulate}
 use Rattle.wire.specs.declared.refusals.Refusal.{Refusal}
 use Rattle.wire.specs.declared.refusals.Refusal.the-variants as cause
-use Rattle.wire.proofs.AnswerLaws.{checked, checked-next, came, came-refused}
+use Rattle.wire.proofs.AnswerLaws.{checked, checked-next, came, came-refused, Never, never-result, never-check}
+use Rattle.wire.proofs.ContentsLaws.{laid}
 use Rattle.wire.proofs.CheckLaws.{both-first, both-second, all-below}
 use Rattle.wire.proofs.ListLaws.{tabulate-length, tabulate-at}
 use Rattle.program.specs.declared.node.Node.the-variants.{Zero}
@@ -22,12 +24,11 @@ use Rattle.program.specs.declared.reader.ProgramRead.{ProgramRead}
 use Rattle.program.specs.declared.reader.ProgramRead.the-variants.{Good, Refused}
 use Rattle.program.specs.Nodes.{nodeAt, nodesIn, nodeFits}
 use Rattle.program.specs.Programs.{Program, headOf}
-use Rattle.program.specs.Layout.{Sized}
-use Rattle.program.specs.Reading.{tags, inputsOf, outputsOf, nodesOf, lengthsFit, rangesFit, outputAt, outputFits, programOf, readBodies, readProgram, programRead}
+use Rattle.program.specs.Reading.{tags, nodesOf, lengthsFit, outputAt, outputFits, programOf, readBodies, readProgram, programRead}
 use Rattle.program.specs.Trees.{trees, TableOk}
 use Rattle.program.specs.Exprs.{ZERO, InputsBelow}
 use Rattle.program.proofs.NodeLaws.{node-ok}
-use Rattle.program.proofs.ReadingLaws.{laid, sized, nodes-counted}
+use Rattle.program.proofs.ReadingLaws.{Sized, sized, nodes-counted}
 use Rattle.program.proofs.TreeLaws.{trees-below}
 
 -- an accepted file: every test held
@@ -65,22 +66,22 @@ ordered f p e =
 
 -- a file that reads as a program passed every test
 pub accepted : (f : List ℕ) (p : Program) → readProgram f ≡ result p → Accepted f
-unfolding readProgram rangesFit
+unfolding readProgram countsFit
 accepted f p e =
-    let ranges : Answer Program = check (rangesFit f) cause.Range (readBodies f) in
+    let ranges : Answer Program = check (countsFit (bodyOf f 0)) cause.Range (readBodies f) in
     let lengths : Answer Program = check (lengthsFit f) cause.BodyLength ranges in
     let entries : Answer Program = check (entriesFit tags f) cause.Contents lengths in
     let e₂ : entries ≡ result p = checked-next p (tableFits 3 f) cause.Table entries e in
     let e₃ : lengths ≡ result p = checked-next p (entriesFit tags f) cause.Contents lengths e₂ in
     let e₄ : ranges ≡ result p = checked-next p (lengthsFit f) cause.BodyLength ranges e₃ in
-    let o = ordered f p (checked-next p (rangesFit f) cause.Range (readBodies f) e₄) in
-    let in-range : rangesFit f ≡ true = checked p (rangesFit f) cause.Range (readBodies f) e₄ in
+    let o = ordered f p (checked-next p (countsFit (bodyOf f 0)) cause.Range (readBodies f) e₄) in
+    let in-range : countsFit (bodyOf f 0) ≡ true = checked p (countsFit (bodyOf f 0)) cause.Range (readBodies f) e₄ in
     let n : Bool = leb (inputsOf f) 64 in
     let m₁ : Bool = leb 1 (outputsOf f) in
     let m₂ : Bool = leb (outputsOf f) 64 in
     record {
       is = e ∙ sym (o .same);
-      sized = sized f (laid f (checked p (tableFits 3 f) cause.Table entries e) (checked p (entriesFit tags f) cause.Contents lengths e₂)) (checked p (lengthsFit f) cause.BodyLength ranges e₃);
+      sized = sized f (laid tags f (checked p (tableFits 3 f) cause.Table entries e) (checked p (entriesFit tags f) cause.Contents lengths e₂)) (checked p (lengthsFit f) cause.BodyLength ranges e₃);
       inputs-most = leb-true (inputsOf f) 64 (both-first n (m₁ && m₂) in-range);
       outputs-some = leb-true 1 (outputsOf f) (both-first m₁ m₂ (both-second n (m₁ && m₂) in-range));
       outputs-most = leb-true (outputsOf f) 64 (both-second m₁ m₂ (both-second n (m₁ && m₂) in-range));
@@ -103,6 +104,23 @@ read f {r} {h} e g =
 -- where it refused, the file is refused for that cause
 pub read-refused : (f : List ℕ) {r : ProgramRead} {why : Refusal} → programRead r ≡ mapAnswer headOf (readProgram f) → r ≡ Refused why → readProgram f ≡ refuse why
 read-refused f {r} {why} e g = came-refused headOf (readProgram f) (numberOf why) (placeOf why) (sym (ap programRead g) ∙ e)
+
+-- reading a program never finds that there is no room
+pub reader-room : (f : List ℕ) → Never 11 (readProgram f)
+unfolding readProgram readBodies
+reader-room f =
+    let read : Answer Program = result (programOf f) in
+    let outputs : Answer Program = check (allBelow (outputFits (nodesOf f) (bodyOf f 2)) (outputsOf f)) (cause.Output (lowest (outputFits (nodesOf f) (bodyOf f 2)) (outputsOf f))) read in
+    let ranges : Answer Program = check (countsFit (bodyOf f 0)) cause.Range (readBodies f) in
+    let lengths : Answer Program = check (lengthsFit f) cause.BodyLength ranges in
+    let entries : Answer Program = check (entriesFit tags f) cause.Contents lengths in
+    never-check 11 (tableFits 3 f) cause.Table entries (omega arith)
+    (never-check 11 (entriesFit tags f) cause.Contents lengths (omega arith)
+    (never-check 11 (lengthsFit f) cause.BodyLength ranges (omega arith)
+    (never-check 11 (countsFit (bodyOf f 0)) cause.Range (readBodies f) (omega arith)
+    (never-check 11 (allBelow (nodeFits (inputsOf f) (bodyOf f 1)) (nodesOf f)) (cause.Node (lowest (nodeFits (inputsOf f) (bodyOf f 1)) (nodesOf f))) outputs (omega arith)
+    (never-check 11 (allBelow (outputFits (nodesOf f) (bodyOf f 2)) (outputsOf f)) (cause.Output (lowest (outputFits (nodesOf f) (bodyOf f 2)) (outputsOf f))) read (omega arith)
+    (never-result 11 (programOf f)))))))
 
 -- the table and the outputs of an accepted program
 module _ (f : List ℕ) (a : Accepted f) where

@@ -1,19 +1,22 @@
 -- Laws of reading nodes. Assumes nothing.
-use Prim.Native.Nat.{ℕ, _<_}
+use Prim.Native.Nat.{ℕ, _+_, _*_, _<_}
 use native.Mathlib.Omega.{arith}
-use mathlib.Core.Path.{_≡_, sym, ap, _∙_}
+use mathlib.Core.Path.{_≡_, sym, ap, subst, _∙_}
 use mathlib.Core.Bool.{true, false, _&&_, false≢true}
 use mathlib.Core.List.{List}
+use lib.ListN.{getD}
 use lib.Dec.{eqb, leb, ltb}
 use borrow.Author.Tests.{lt-leb, ltb-true, eqb-false}
 use Rattle.wire.specs.Answers.{result, refuse}
+use Rattle.wire.specs.Bytes.{at16}
 use Rattle.wire.specs.declared.refusals.Refusal.the-variants as cause
 use Rattle.wire.proofs.AnswerLaws.{checked}
 use Rattle.wire.proofs.CheckLaws.{by-test, both-first, both-second}
 use Rattle.program.specs.declared.node.Node.{Node}
+use Rattle.program.specs.declared.node.Node.the-variants.{Input, Not, Xor, And}
 use Rattle.program.specs.declared.node.NodeRead.{NodeRead}
 use Rattle.program.specs.declared.node.NodeRead.the-variants.{Good, Bad}
-use Rattle.program.specs.Nodes.{nodeOf, operandsFit, kindAt, zeroAt, aAt, bAt, nodeAt, nodeFits, readNode, nodeRead}
+use Rattle.program.specs.Nodes.{nodeOf, operandsFit, nodeAt, nodeFits, readNode, nodeRead}
 use Rattle.program.specs.Trees.{NodeOk}
 
 module _ (n : ℕ) (body : List ℕ) (i : ℕ) {r : NodeRead} (e : nodeRead r ≡ readNode n body i) where
@@ -59,5 +62,21 @@ module _ (n i kind a b : ℕ) where
 pub node-ok : (n : ℕ) (body : List ℕ) (i : ℕ) → nodeFits n body i ≡ true → NodeOk n i (nodeAt body i)
 unfolding nodeFits nodeAt
 node-ok n body i e =
-    operands-ok n i (kindAt body i) (aAt body i) (bAt body i)
-    (both-second (eqb (zeroAt body i) 0) (operandsFit n i (kindAt body i) (aAt body i) (bAt body i)) e)
+    let kind : ℕ = getD body (6 * i) 0 in
+    let a : ℕ = at16 body (6 * i + 2) in
+    let b : ℕ = at16 body (6 * i + 4) in
+    operands-ok n i kind a b (both-second (eqb (getD body (6 * i + 1) 0) 0) (operandsFit n i kind a b) e)
+
+-- a node in order has an input that is there, and operands that are lower
+module _ (n i : ℕ) {node : Node} (ok : NodeOk n i node) where
+  pub input-below : {j : ℕ} → node ≡ Input j → j < n
+  input-below e = subst (NodeOk n i) e ok
+
+  pub not-operand : {a : ℕ} → node ≡ Not a → a < i
+  not-operand e = subst (NodeOk n i) e ok
+
+  pub xor-operands : {a b : ℕ} → node ≡ Xor a b → (a < i) × (b < i)
+  xor-operands e = subst (NodeOk n i) e ok
+
+  pub and-operands : {a b : ℕ} → node ≡ And a b → (a < i) × (b < i)
+  and-operands e = subst (NodeOk n i) e ok

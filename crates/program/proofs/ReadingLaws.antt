@@ -1,43 +1,35 @@
 -- Laws of reading a program file: what each test that held says. Assumes nothing.
-use Prim.Native.Nat.{ℕ, _+_, _*_, _/_, _%_}
+use Prim.Native.Nat.{ℕ, _*_, _/_, _%_, _≤_}
 use native.Mathlib.Omega.{arith}
 use mathlib.Core.Path.{_≡_, ap, ap₂, _∙_}
 use mathlib.Core.Bool.{Bool, true, _&&_}
-use mathlib.Core.List.{List, [], _∷_}
+use mathlib.Core.List.{List}
 use lib.ListN.{length}
 use lib.Dec.{eqb, leb}
 use borrow.Author.Tests.{eqb-true, leb-true}
 use Rattle.wire.specs.Checks.{lowest}
-use Rattle.wire.specs.Contents.{tableLength, tableFits, entriesFit, entryLength, bodyOf}
+use Rattle.wire.specs.Contents.{entryLength, bodyOf, Laid}
+use Rattle.wire.specs.Counts.{inputsOf, outputsOf}
 use Rattle.wire.proofs.CheckLaws.{both-first, both-second}
-use Rattle.wire.proofs.ContentsLaws.{table-whole, body-length, entry-first, entries-end}
+use Rattle.wire.proofs.ContentsLaws.{body-length}
 use Rattle.wire.proofs.ListLaws.{tabulate-length}
 use Rattle.wire.specs.Answers.{Answer, result}
 use Rattle.program.specs.declared.reader.Head.{Head}
 use Rattle.program.specs.Nodes.{nodeAt, nodeFits}
 use Rattle.program.specs.Programs.{headOf}
-use Rattle.program.specs.Layout.{Laid, Sized}
-use Rattle.program.specs.Reading.{tags, inputsOf, outputsOf, nodesOf, lengthsFit, outputAt, outputFits, programOf}
+use Rattle.program.specs.Reading.{nodesOf, lengthsFit, outputAt, outputFits, programOf}
+
+-- a file that passes causes 1 to 3
+pub record Sized (f : List ℕ) : Type 0 where
+  pub laid : Laid 3 f
+  pub four : entryLength f 0 ≡ 4
+  pub sixes : entryLength f 1 ≡ 6 * nodesOf f
+  pub some : 1 ≤ nodesOf f
+  pub most : nodesOf f ≤ 4096
+  pub twos : entryLength f 2 ≡ 2 * outputsOf f
 
 module _ (f : List ℕ) where
-  -- causes 1 and 2 passed
-  pub laid : tableFits 3 f ≡ true → entriesFit tags f ≡ true → Laid f
-  unfolding entriesFit
-  laid t e =
-      let a = entry-first 1 (2 ∷ 3 ∷ []) 0 (tableLength 3) f e in
-      let b = entry-first 2 (3 ∷ []) 1 (tableLength 3 + entryLength f 0) f (a .behind) in
-      let c = entry-first 3 [] 2 (tableLength 3 + entryLength f 0 + entryLength f 1) f (b .behind) in
-      let z = entries-end 3 (tableLength 3 + entryLength f 0 + entryLength f 1 + entryLength f 2) f (c .behind) in
-      record {
-        whole = table-whole 3 f t;
-        first = a .starts;
-        second = omega (arith, a .starts, b .starts);
-        third = omega (arith, b .starts, c .starts);
-        last = omega (arith, c .starts, z);
-      }
-
-  -- and cause 3
-  pub sized : Laid f → lengthsFit f ≡ true → Sized f
+  pub sized : Laid 3 f → lengthsFit f ≡ true → Sized f
   unfolding lengthsFit
   sized l e =
       let four : Bool = eqb (entryLength f 0) 4 in
@@ -58,16 +50,16 @@ module _ (f : List ℕ) where
         twos = eqb-true (entryLength f 2) (2 * outputsOf f) (both-second (four && (sixes && (some && most))) twos e);
       }
 
-  module _ (l : Laid f) where
+  module _ (l : Laid 3 f) where
     -- each body is as long as its entry says
     pub head-long : length (bodyOf f 0) ≡ entryLength f 0
-    head-long = body-length f 0 (omega (arith, l .second, l .third, l .last))
+    head-long = body-length f 0 (l .within 0 (omega arith))
 
     pub nodes-long : length (bodyOf f 1) ≡ entryLength f 1
-    nodes-long = body-length f 1 (omega (arith, l .third, l .last))
+    nodes-long = body-length f 1 (l .within 1 (omega arith))
 
     pub outputs-long : length (bodyOf f 2) ≡ entryLength f 2
-    outputs-long = body-length f 2 (omega (arith, l .last))
+    outputs-long = body-length f 2 (l .within 2 (omega arith))
 
   module _ (s : Sized f) where
     pub nodes-counted : length (bodyOf f 1) / 6 ≡ nodesOf f

@@ -1,15 +1,17 @@
 -- Laws of trees: a node's tree is made of its operands' trees, and its inputs are below n. Assumes nothing.
-use Prim.Native.Nat.{ℕ, zero, suc, _+_, _<_, suc-le-suc}
+use Prim.Native.Nat.{ℕ, zero, suc, _+_, _/_, _<_, suc-le-suc}
 use native.Mathlib.Omega.{arith}
 use native.Mathlib.Nat.{not-suc-le-zero, le-of-suc-le-suc, zero-add, add-zero, suc-add, add-suc, zero-lt-suc}
 use mathlib.Core.Path.{_≡_, refl, sym, ap, ap₂, _∙_}
 use mathlib.Core.List.{List, [], _∷_, _++_}
-use lib.ListN.{length, getD, length-append, List·getD-append}
-use lib.Seq.{getD-append-seam}
+use lib.ListN.{length, getD, take, length-append, List·getD-append}
+use lib.Seq.{getD-append-seam, length-take-le}
+use Rattle.wire.proofs.ListLaws.{tabulate-length, tabulate-at}
 use Rattle.program.specs.declared.node.Node.{Node}
 use Rattle.program.specs.declared.node.Node.the-variants.{Zero, One, Input, Not, Xor, And}
 use Rattle.program.specs.Exprs.{Expr, ZERO, NOT, XOR, AND, InputsBelow, EachBelow}
-use Rattle.program.specs.Trees.{treeOf, treesFrom, trees, NodeOk, TableOk}
+use Rattle.program.specs.Nodes.{nodeAt, nodesIn}
+use Rattle.program.specs.Trees.{treeOf, treesFrom, trees, NodeOk, TableOk, Fillable}
 
 -- a tree already made stays
 from-before : (ts : List Expr) (ns : List Node) (i : ℕ) → i < length ts → getD (treesFrom ts ns) i ZERO ≡ getD ts i ZERO
@@ -94,3 +96,17 @@ from-below n d ts (o ∷ ns) v h =
 pub trees-below : (n : ℕ) (ns : List Node) → TableOk n ns → (i : ℕ) → InputsBelow n (getD (trees ns) i ZERO)
 unfolding trees
 trees-below n ns w i = each-at n (treesFrom [] ns) (from-below n 0 [] ns (λ k p. rw (zero-add k) (w k p)) tt) i
+
+-- node i of a node body
+module _ (body : List ℕ) (i : ℕ) (h : i < length body / 6) where
+  pub node-in : getD (nodesIn body) i Zero ≡ nodeAt body i
+  node-in = tabulate-at (nodeAt body) (length body / 6) i Zero h
+
+  pub node-inside : i < length (nodesIn body)
+  node-inside = omega (arith, tabulate-length (nodeAt body) (length body / 6))
+
+  -- it is in order behind a list with an entry for each node before it
+  pub next-ok : {n entries : ℕ} (list : List ℕ) → Fillable n body entries → length list ≡ entries → NodeOk n (length (take i list)) (nodeAt body i)
+  next-ok list f e =
+      let l : length (take i list) ≡ i = length-take-le i list (omega (arith, f .fits)) in
+      rw (l, ← node-in) (f .ordered i node-inside)

@@ -1,5 +1,4 @@
 pub mod Exprs
-pub mod Layout
 pub mod Nodes
 pub mod Programs
 pub mod Reading

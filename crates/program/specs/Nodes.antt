@@ -30,25 +30,9 @@ operandsFit n i kind a b =
     (cond (eqb kind 3) (ltb a i && eqb b 0)
     (cond (leb kind 5) (ltb a i && ltb b i) false)))
 
--- the kind of node i of a node body
-abbrev pub kindAt : List ℕ → ℕ → ℕ
-kindAt body i = getD body (6 * i) 0
-
--- the byte of node i that has to be zero
-abbrev pub zeroAt : List ℕ → ℕ → ℕ
-zeroAt body i = getD body (6 * i + 1) 0
-
--- the field a of node i
-abbrev pub aAt : List ℕ → ℕ → ℕ
-aAt body i = at16 body (6 * i + 2)
-
--- the field b of node i
-abbrev pub bAt : List ℕ → ℕ → ℕ
-bAt body i = at16 body (6 * i + 4)
-
 -- node i of a node body
 unfoldable pub nodeAt : List ℕ → ℕ → Node
-nodeAt body i = nodeOf (kindAt body i) (aAt body i) (bAt body i)
+nodeAt body i = nodeOf (getD body (6 * i) 0) (at16 body (6 * i + 2)) (at16 body (6 * i + 4))
 
 -- the nodes of a node body
 abbrev pub nodesIn : List ℕ → List Node
@@ -56,7 +40,9 @@ nodesIn body = tabulate (nodeAt body) (length body / 6)
 
 -- the test of cause 5 at node i: its zero byte is zero, and its kind and fields are right
 unfoldable pub nodeFits : ℕ → List ℕ → ℕ → Bool
-nodeFits n body i = eqb (zeroAt body i) 0 && operandsFit n i (kindAt body i) (aAt body i) (bAt body i)
+nodeFits n body i =
+    eqb (getD body (6 * i + 1) 0) 0
+    && operandsFit n i (getD body (6 * i) 0) (at16 body (6 * i + 2)) (at16 body (6 * i + 4))
 
 -- what reading node i gives: the node, or cause 5 with its index
 unfoldable pub readNode : ℕ → List ℕ → ℕ → Answer Node

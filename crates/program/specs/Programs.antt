@@ -19,10 +19,6 @@ pub record Program : Type 0 where
 abbrev pub headOf : Program → Head
 headOf p = record { inputs = p .inputs; outputs = length (p .outputs); nodes = length (p .nodes) }
 
--- how many nodes it has
-abbrev pub nodeCount : Program → ℕ
-nodeCount p = length (p .nodes)
-
 -- the tree of the node that output k names
 unfoldable pub outputTree : Program → ℕ → Expr
 outputTree p k = getD (trees (p .nodes)) (getD (p .outputs) k 0) ZERO

@@ -6,6 +6,7 @@ use lib.Dec.{eqb, leb, ltb}
 use Rattle.wire.specs.Answers.{Answer, result, refuse, check, checkEach}
 use Rattle.wire.specs.Bytes.{at16}
 use Rattle.wire.specs.Contents.{tableFits, entriesFit, entryLength, bodyOf}
+use Rattle.wire.specs.Counts.{inputsOf, outputsOf, countsFit}
 use Rattle.wire.specs.Lists.{tabulate}
 use Rattle.wire.specs.declared.refusals.Refusal.the-variants as cause
 use Rattle.program.specs.declared.reader.Head.{Head}
@@ -18,14 +19,6 @@ use Rattle.program.specs.Programs.{Program}
 abbrev pub tags : List ℕ
 tags = 1 ∷ 2 ∷ 3 ∷ []
 
--- the number of inputs, n, as read
-abbrev pub inputsOf : List ℕ → ℕ
-inputsOf f = at16 (bodyOf f 0) 0
-
--- the number of outputs, m, as read
-abbrev pub outputsOf : List ℕ → ℕ
-outputsOf f = at16 (bodyOf f 0) 2
-
 -- how many nodes the second body has room for
 abbrev pub nodesOf : List ℕ → ℕ
 nodesOf f = entryLength f 1 / 6
@@ -36,10 +29,6 @@ lengthsFit f =
     eqb (entryLength f 0) 4
     && (eqb (entryLength f 1 % 6) 0 && (leb 1 (nodesOf f) && leb (nodesOf f) 4096))
     && eqb (entryLength f 2) (2 * outputsOf f)
-
--- the test of cause 4: at most 64 inputs, 1 to 64 outputs
-unfoldable pub rangesFit : List ℕ → Bool
-rangesFit f = leb (inputsOf f) 64 && (leb 1 (outputsOf f) && leb (outputsOf f) 64)
 
 -- the index of the node that output k names
 abbrev pub outputAt : List ℕ → ℕ → ℕ
@@ -71,7 +60,7 @@ readProgram f =
     check (tableFits 3 f) cause.Table  -- 1
     (check (entriesFit tags f) cause.Contents  -- 2
     (check (lengthsFit f) cause.BodyLength  -- 3
-    (check (rangesFit f) cause.Range  -- 4
+    (check (countsFit (bodyOf f 0)) cause.Range  -- 4
     (readBodies f))))
 
 -- the reader's answer in 01's terms: inputs, outputs and nodes, or a number and a place

@@ -5,18 +5,20 @@ use wire::contents::body;
 use wire::contents::entries_fit;
 use wire::contents::entry_length;
 use wire::contents::table_fits;
+use wire::counts::counts_fit;
 use wire::numbers::get16;
 use wire::refusals::Refusal;
 ghost use mathlib.Core.Path.{_≡_};
+ghost use mathlib.Core.Bool.{true};
 ghost use Prim.Native.Nat.{_+_, _*_, _/_, _≤_};
 ghost use lib.ListN.{length};
 ghost use Rattle.wire.specs.Answers.{mapAnswer};
 ghost use Rattle.wire.specs.Checks.{lowest};
-ghost use Rattle.wire.specs.Contents.{bodyOf};
+ghost use Rattle.wire.specs.Contents.{entryLength, bodyOf, Laid};
+ghost use Rattle.wire.specs.Counts.{countsFit};
 ghost use Rattle.program.specs.Nodes.{nodeFits};
 ghost use Rattle.program.specs.Programs.{headOf};
-ghost use Rattle.program.specs.Layout.{Laid, Sized};
-ghost use Rattle.program.specs.Reading.{outputAt, outputFits, lengthsFit, rangesFit, readBodies, readProgram, programRead};
+ghost use Rattle.program.specs.Reading.{outputAt, outputFits, lengthsFit, readBodies, readProgram, programRead};
 
 // How many inputs, outputs and nodes a program has.
 pub struct Head {
@@ -71,7 +73,7 @@ fn read_outputs(outputs: &[u8], nodes: usize) -> usize
 // Whether the bodies have the lengths that their layout asks for. The number of outputs is taken
 // as read: whether it is in range is a later check.
 fn lengths_fit(file: &[u8]) -> bool
-    requires { ⌜ Laid (now file) ⌝ }
+    requires { ⌜ Laid 3 (now file) ⌝ }
     ensures { λ r. ⌜ r ≡ lengthsFit (now (file .entry)) ⌝ }
 {
     if entry_length(file, 0) != 4 {
@@ -93,23 +95,15 @@ fn lengths_fit(file: &[u8]) -> bool
 
 // Whether the numbers of inputs and outputs are in range.
 fn ranges_fit(file: &[u8]) -> bool
-    requires { ⌜ Sized (now file) ⌝ }
-    ensures { λ r. ⌜ r ≡ rangesFit (now (file .entry)) ⌝ }
+    requires { ⌜ Laid 3 (now file) × (entryLength (now file) 0 ≡ 4) ⌝ }
+    ensures { λ r. ⌜ r ≡ countsFit (bodyOf (now (file .entry)) 0) ⌝ }
 {
-    let head = body(file, 0);
-    if 64 < get16(head, 0) {
-        return false;
-    }
-    let outputs = get16(head, 2);
-    if outputs < 1 {
-        return false;
-    }
-    outputs <= 64
+    counts_fit(body(file, 0))
 }
 
 // The node body of a file.
 pub fn node_body(file: &[u8]) -> &[u8]
-    requires { ⌜ Laid (now file) ⌝ }
+    requires { ⌜ Laid 3 (now file) ⌝ }
     ensures { λ r. ⌜ now r ≡ bodyOf (now (file .entry)) 1 ⌝ }
 {
     body(file, 1)
@@ -117,7 +111,7 @@ pub fn node_body(file: &[u8]) -> &[u8]
 
 // The output body of a file.
 pub fn output_body(file: &[u8]) -> &[u8]
-    requires { ⌜ Laid (now file) ⌝ }
+    requires { ⌜ Laid 3 (now file) ⌝ }
     ensures { λ r. ⌜ now r ≡ bodyOf (now (file .entry)) 2 ⌝ }
 {
     body(file, 2)
@@ -125,7 +119,7 @@ pub fn output_body(file: &[u8]) -> &[u8]
 
 // Reads the node body and the output body, each as its own part of the file.
 fn read_bodies(file: &[u8]) -> ProgramRead
-    requires { ⌜ Sized (now file) ⌝ }
+    requires { ⌜ Laid 3 (now file) × (lengthsFit (now file) ≡ true) ⌝ }
     ensures { λ r. ⌜ programRead r ≡ mapAnswer headOf (readBodies (now (file .entry))) ⌝ }
 {
     let head = body(file, 0);

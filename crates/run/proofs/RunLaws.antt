@@ -9,10 +9,9 @@ use Rattle.wire.specs.Contents.{bodyOf}
 use Rattle.wire.proofs.AnswerLaws.{came}
 use Rattle.wire.proofs.BitLaws.{bits-pass}
 use Rattle.gate.specs.declared.gates.Gate.{Gate}
-use Rattle.gate.specs.Gates.{WellFormed}
+use Rattle.gate.specs.Gates.{WellFormed, Fits}
 use Rattle.gate.specs.GateBytes.{gateAt}
 use Rattle.gate.specs.Running.{step, run, runBack}
-use Rattle.gate.specs.Theorems.{Fits}
 use Rattle.gate.proofs.AllLaws.{all-reverse}
 use Rattle.gate.proofs.StepLaws.{length-step, step-bits, length-run, run-bits, backwards-undoes, forwards-undoes}
 use Rattle.gate.proofs.WellFormedLaws.{target-below}
@@ -20,7 +19,7 @@ use Rattle.circuit.specs.Circuits.{Circuit, lineCount, gatesIn}
 use Rattle.circuit.specs.Reading.{readWithLines}
 use Rattle.circuit.proofs.AcceptedLaws.{accepted, formed, WithLines, with-lines, has-lines, lines-gates, lines-formed}
 use Rattle.circuit.proofs.GateBodyLaws.{gate-formed, gates-last}
-use Rattle.run.specs.RunCircuit.{runForwards, runBackwards, linesAfter, done, Runnable}
+use Rattle.run.specs.RunCircuit.{runForwards, runBackwards, linesAfter, done}
 use Rattle.run.specs.Theorems.{BackwardsUndoesFile, ForwardsUndoesFile}
 
 module _ (body : List ℕ) where
@@ -30,14 +29,14 @@ module _ (body : List ℕ) where
     pub bits : Bits lines
     pub rest : run left lines ≡ run all lines₀
 
-  module _ {lines₀ : List ℕ} (r : Runnable body lines₀) where
+  module _ {lines₀ : List ℕ} (r : Fits (gatesIn body) lines₀ × Bits lines₀) where
     pub moved-start : (all left : List Gate) → left ≡ all → Moved all left lines₀ lines₀
-    moved-start all left e = record { same = refl; bits = r .bits; rest = ap (λ (gs : List Gate). run gs lines₀) e }
+    moved-start all left e = record { same = refl; bits = r .1; rest = ap (λ (gs : List Gate). run gs lines₀) e }
 
     module _ {all left : List Gate} {lines : List ℕ} (p : Moved all left lines₀ lines) where
       -- a gate may be applied
       pub moved-formed : (i : ℕ) → i < length body / 8 → WellFormed (length lines) (gateAt body i)
-      moved-formed i h = rw (p .same) (gate-formed body (length lines₀) (r .formed) i h)
+      moved-formed i h = rw (p .same) (gate-formed body (length lines₀) (r .0) i h)
 
       -- and then fewer are left
       pub moved-next : (i : ℕ) (left′ : List Gate) {lines′ : List ℕ} → i < length body / 8 → left ≡ gateAt body i ∷ left′
@@ -81,8 +80,8 @@ module _ (f lines : List ℕ) (order : List Gate → List ℕ → List ℕ) wher
       record { answer = rw e refl; lines-are = rw e (ap (λ (hs : List Gate). order hs lines) gs) }
 
 -- the gates of a file that was read can be run on its lines
-pub runnable : (f lines : List ℕ) (c : Circuit) → readWithLines f lines ≡ result c → Runnable (bodyOf f 1) lines
-runnable f lines c e = record { formed = lines-formed f lines c e; bits = with-lines f lines c e .bits }
+pub runnable : (f lines : List ℕ) (c : Circuit) → readWithLines f lines ≡ result c → Fits (gatesIn (bodyOf f 1)) lines × Bits lines
+runnable f lines c e = (lines-formed f lines c e, with-lines f lines c e .bits)
 
 -- a file that was run on lines can be run on what it left of them
 module _ (f lines : List ℕ) (c : Circuit) (e : readWithLines f lines ≡ result c) where

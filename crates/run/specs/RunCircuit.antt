@@ -1,12 +1,8 @@
 -- Running a circuit file on lines.
 use Prim.Native.Nat.{ℕ}
 use mathlib.Core.List.{List}
-use lib.ListN.{length}
 use Rattle.wire.specs.Answers.{Answer, result, refused, refuse, mapAnswer}
-use Rattle.wire.specs.Bits.{Bits}
-use Rattle.gate.specs.Gates.{WellFormed, All}
 use Rattle.gate.specs.Running.{run, runBack}
-use Rattle.circuit.specs.Circuits.{gatesIn}
 use Rattle.circuit.specs.Reading.{readWithLines}
 use Rattle.run.specs.declared.Ran.{Ran}
 use Rattle.run.specs.declared.Ran.the-variants.{Done, Refused}
@@ -32,8 +28,3 @@ done a = mapAnswer (λ after. 0) a
 abbrev pub ran : Ran → Answer ℕ
 ran Done = result 0
 ran (Refused why) = refuse why
-
--- a gate body whose gates are well formed on these lines, which are bits
-pub record Runnable (body lines : List ℕ) : Type 0 where
-  pub formed : All (WellFormed (length lines)) (gatesIn body)
-  pub bits : Bits lines

@@ -6,9 +6,11 @@ use gate::gates::gate_at;
 use gate::steps::apply;
 use wire::refusals::Refusal;
 ghost use mathlib.Core.Path.{_≡_};
+ghost use Rattle.wire.specs.Bits.{Bits};
+ghost use Rattle.gate.specs.Gates.{Fits};
 ghost use Rattle.gate.specs.Running.{run, runBack};
 ghost use Rattle.circuit.specs.Circuits.{gatesIn};
-ghost use Rattle.run.specs.RunCircuit.{runForwards, runBackwards, linesAfter, ran, done, Runnable};
+ghost use Rattle.run.specs.RunCircuit.{runForwards, runBackwards, linesAfter, ran, done};
 
 // What running a circuit answers.
 pub enum Ran {
@@ -28,7 +30,7 @@ fn refused(answer: CircuitRead) -> Ran
 
 // Runs the gates of a gate body, first to last.
 fn apply_all(gates: &[u8], lines: &mut [u8])
-    requires { ⌜ Runnable (now gates) (now lines) ⌝ }
+    requires { ⌜ Fits (gatesIn (now gates)) (now lines) × Bits (now lines) ⌝ }
     ensures { λ _. ⌜ now (lines .exit) ≡ run (gatesIn (now (gates .entry))) (now (lines .entry)) ⌝ }
 {
     let mut i = 0;
@@ -40,7 +42,7 @@ fn apply_all(gates: &[u8], lines: &mut [u8])
 
 // Runs the gates of a gate body, last to first.
 fn apply_all_back(gates: &[u8], lines: &mut [u8])
-    requires { ⌜ Runnable (now gates) (now lines) ⌝ }
+    requires { ⌜ Fits (gatesIn (now gates)) (now lines) × Bits (now lines) ⌝ }
     ensures { λ _. ⌜ now (lines .exit) ≡ runBack (gatesIn (now (gates .entry))) (now (lines .entry)) ⌝ }
 {
     let mut i = gates.len() / 8;

@@ -1,25 +1,25 @@
 -- Laws of the sizes that the size list shows: a node's entry is made of its operands' entries. Assumes nothing.
 use Prim.Native.Nat.{ℕ, _+_, _/_, _<_, _≤_}
 use native.Mathlib.Omega.{arith}
-use mathlib.Core.Path.{_≡_, refl, sym, ap, ap₂, subst, _∙_}
+use mathlib.Core.Path.{_≡_, refl, sym, ap, ap₂, _∙_}
 use mathlib.Core.Bool.{true, false}
 use mathlib.Core.List.{List, _++_}
 use lib.ListN.{length, getD, take, drop, set, length-map, List·getD-append}
-use lib.Seq.{length-take-le, getD-take}
+use lib.Seq.{getD-take}
 use lib.Dec.{leb}
 use borrow.Author.Tests.{leb-true, leb-false, le-leb, lt-leb}
 use Rattle.wire.specs.Checks.{lowest}
 use Rattle.wire.proofs.CheckLaws.{by-test, lowest-same}
 use Rattle.wire.proofs.FillLaws.{Filled, filled-front, filled-next, filled-all}
-use Rattle.wire.proofs.ListLaws.{map-at, tabulate-length, tabulate-at}
+use Rattle.wire.proofs.ListLaws.{map-at, tabulate-length}
 use Rattle.program.specs.declared.node.Node.{Node}
 use Rattle.program.specs.declared.node.Node.the-variants.{Zero, One, Input, Not, Xor, And}
 use Rattle.program.specs.Exprs.{Expr, ZERO, size}
 use Rattle.program.specs.Nodes.{nodeAt, nodesIn}
 use Rattle.program.specs.Reading.{outputAt}
-use Rattle.program.specs.Trees.{treeOf, trees, NodeOk, TableOk}
-use Rattle.program.proofs.TreeLaws.{length-trees, trees-at}
-use Rattle.sizing.specs.Sizing.{shown, nodeSize, nodeSizes, entryFits, Sizeable, Known}
+use Rattle.program.specs.Trees.{treeOf, trees, NodeOk, TableOk, Fillable}
+use Rattle.program.proofs.TreeLaws.{length-trees, trees-at, node-in, node-inside}
+use Rattle.sizing.specs.Sizing.{shown, nodeSize, nodeSizes, entryFits}
 
 -- a size as shown is at most 16,384 just where the size is
 pub size-within : (s : ℕ) → leb (shown s) 16384 ≡ leb s 16384
@@ -63,17 +63,6 @@ module _ (ns : List Node) where
       ∙ ap (λ (e : Expr). shown (size e)) (trees-at n ns w i h)
       ∙ tree-size n i (getD ns i Zero) h (w i h)
 
--- the operands of a node are among the entries
-module _ {o : Node} {entries : ℕ} (k : Known o entries) where
-  pub not-operand : {a : ℕ} → o ≡ Not a → a < entries
-  not-operand e = subst (NodeOk (k .inputs) entries) e (k .ok)
-
-  pub xor-operands : {a b : ℕ} → o ≡ Xor a b → (a < entries) × (b < entries)
-  xor-operands e = subst (NodeOk (k .inputs) entries) e (k .ok)
-
-  pub and-operands : {a b : ℕ} → o ≡ And a b → (a < entries) × (b < entries)
-  and-operands e = subst (NodeOk (k .inputs) entries) e (k .ok)
-
 -- the test of the entry of output k, which names node i
 module _ (sizes outputs : List ℕ) (k : ℕ) {i : ℕ} (e : i ≡ outputAt outputs k) where
   pub entry-fits : getD sizes i 0 ≤ 16384 → entryFits sizes outputs k ≡ true
@@ -86,25 +75,12 @@ module _ (body : List ℕ) where
   nodes-count : length (nodesIn body) ≡ length body / 6
   nodes-count = tabulate-length (nodeAt body) (length body / 6)
 
-  -- a loop has stored the entries of the first i nodes
-  module _ {list₀ list : List ℕ} {i : ℕ} (p : Filled (nodeSizes (nodesIn body)) list₀ list i) (s : Sizeable body (length list₀)) (h : i < length body / 6) where
-    node : getD (nodesIn body) i Zero ≡ nodeAt body i
-    node = tabulate-at (nodeAt body) (length body / 6) i Zero h
-
-    inside : i < length (nodesIn body)
-    inside = omega (arith, nodes-count)
-
-    -- the next node's operands are among them
-    pub filled-known : Known (nodeAt body i) (length (take i list))
-    filled-known =
-        let l : length (take i list) ≡ i = length-take-le i list (omega (arith, p .same, s .fits)) in
-        record { inputs = s .inputs; ok = rw (l, ← node) (s .ordered i inside) }
-
-    -- and its entry is stored
-    pub size-stored : {v : ℕ} → v ≡ nodeSize (nodeAt body i) (take i list) → Filled (nodeSizes (nodesIn body)) list₀ (set list i v) (i + 1)
-    size-stored {v} e =
-        let known : v ≡ getD (nodeSizes (nodesIn body)) i 0 = e ∙ ap₂ nodeSize (sym node) (filled-front p) ∙ sym (size-next (nodesIn body) (s .inputs) (s .ordered) i inside) in
-        filled-next p known (omega (arith, sizes-length (nodesIn body), inside)) (omega (arith, sizes-length (nodesIn body), nodes-count, s .fits))
+  -- a loop has stored the entries of the first i nodes: the next node's entry is stored
+  pub size-stored : {n i v : ℕ} {list₀ list : List ℕ} → Filled (nodeSizes (nodesIn body)) list₀ list i → Fillable n body (length list₀) → i < length body / 6
+      → v ≡ nodeSize (nodeAt body i) (take i list) → Filled (nodeSizes (nodesIn body)) list₀ (set list i v) (i + 1)
+  size-stored {n} {i} {v} p s h e =
+      let known : v ≡ getD (nodeSizes (nodesIn body)) i 0 = e ∙ ap₂ nodeSize (sym (node-in body i h)) (filled-front p) ∙ sym (size-next (nodesIn body) n (s .ordered) i (node-inside body i h)) in
+      filled-next p known (omega (arith, sizes-length (nodesIn body), node-inside body i h)) (omega (arith, sizes-length (nodesIn body), nodes-count, s .fits))
 
   -- every entry is stored
   pub sizes-stored : {list₀ list : List ℕ} {i : ℕ} → Filled (nodeSizes (nodesIn body)) list₀ list i → length body / 6 ≤ i

@@ -1,15 +1,14 @@
 -- The unfolded sizes of the nodes of a table, as the size list holds them.
-use Prim.Native.Nat.{ℕ, _+_, _/_, _≤_, _<_, min}
+use Prim.Native.Nat.{ℕ, _+_, min}
 use mathlib.Core.Bool.{Bool}
 use mathlib.Core.List.{List, map}
-use lib.ListN.{length, getD}
+use lib.ListN.{getD}
 use lib.Dec.{leb}
 use Rattle.program.specs.declared.node.Node.{Node}
 use Rattle.program.specs.declared.node.Node.the-variants.{Zero, One, Input, Not, Xor, And}
 use Rattle.program.specs.Exprs.{size}
-use Rattle.program.specs.Nodes.{nodesIn}
 use Rattle.program.specs.Reading.{outputAt}
-use Rattle.program.specs.Trees.{trees, NodeOk, TableOk}
+use Rattle.program.specs.Trees.{trees}
 
 -- a size as the list shows it: 16,385 if that is less
 unfoldable pub shown : ℕ → ℕ
@@ -31,18 +30,3 @@ nodeSize (And a b) ss = shown (1 + getD ss a 0 + getD ss b 0)
 -- the entry of the node that output k names is at most 16,384
 abbrev pub entryFits : List ℕ → List ℕ → ℕ → Bool
 entryFits sizes outputs k = leb (getD sizes (outputAt outputs k) 0) 16384
-
--- a node body whose nodes are in order, with an entry for each
-pub record Sizeable (body : List ℕ) (entries : ℕ) : Type 0 where
-  pub inputs : ℕ
-  pub ordered : TableOk inputs (nodesIn body)
-  pub fits : length body / 6 ≤ entries
-
--- a node whose operands are among the entries
-pub record Known (node : Node) (entries : ℕ) : Type 0 where
-  pub inputs : ℕ
-  pub ok : NodeOk inputs entries node
-
--- every output names one of the entries
-abbrev pub Named : List ℕ → ℕ → Type 0
-Named outputs entries = (k : ℕ) → k < length outputs / 2 → outputAt outputs k < entries

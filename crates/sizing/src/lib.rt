@@ -4,11 +4,13 @@ use program::node::node_at;
 use program::reader::output_at;
 ghost use mathlib.Core.Path.{_≡_};
 ghost use mathlib.Core.List.{_++_};
-ghost use Prim.Native.Nat.{_+_, _/_};
+ghost use Prim.Native.Nat.{ℕ, _+_, _/_, _<_};
 ghost use lib.ListN.{length, drop};
 ghost use Rattle.wire.specs.Checks.{lowest};
 ghost use Rattle.program.specs.Nodes.{nodesIn};
-ghost use Rattle.sizing.specs.Sizing.{shown, nodeSize, nodeSizes, entryFits, Sizeable, Known, Named};
+ghost use Rattle.program.specs.Reading.{outputAt};
+ghost use Rattle.program.specs.Trees.{NodeOk, Fillable};
+ghost use Rattle.sizing.specs.Sizing.{shown, nodeSize, nodeSizes, entryFits};
 
 // The largest size that is told apart; the list shows it for every larger one too.
 const TOO_LARGE: u64 = 16385;
@@ -26,7 +28,7 @@ fn joined(a: u16, b: u16) -> u16
 
 // A node's entry, where sizes has those of the nodes before it.
 fn node_size(node: Node, sizes: &[u16]) -> u16
-    requires { ⌜ Known node (length (now sizes)) ⌝ }
+    requires { ⌜ ((n : ℕ) × NodeOk n (length (now sizes)) node) ⌝ }
     ensures { λ r. ⌜ r ≡ nodeSize node (now (sizes .entry)) ⌝ }
 {
     match node {
@@ -41,7 +43,7 @@ fn node_size(node: Node, sizes: &[u16]) -> u16
 
 // Stores the entry of each node of a node body at the node's index.
 pub fn fill_sizes(nodes: &[u8], sizes: &mut [u16])
-    requires { ⌜ Sizeable (now nodes) (length (now sizes)) ⌝ }
+    requires { ⌜ ((n : ℕ) × Fillable n (now nodes) (length (now sizes))) ⌝ }
     ensures { λ _. ⌜ now (sizes .exit) ≡ nodeSizes (nodesIn (now (nodes .entry))) ++ drop (length (now (nodes .entry)) / 6) (now (sizes .entry)) ⌝ }
 {
     let mut i = 0;
@@ -54,7 +56,7 @@ pub fn fill_sizes(nodes: &[u8], sizes: &mut [u16])
 
 // The lowest output whose node's size is over 16,384, or the number of outputs.
 pub fn first_too_large(outputs: &[u8], sizes: &[u16]) -> usize
-    requires { ⌜ Named (now outputs) (length (now sizes)) ⌝ }
+    requires { ⌜ ((k : ℕ) → k < length (now outputs) / 2 → outputAt (now outputs) k < length (now sizes)) ⌝ }
     ensures { λ r. ⌜ r ≡ lowest (entryFits (now (sizes .entry)) (now (outputs .entry))) (length (now (outputs .entry)) / 2) ⌝ }
 {
     let mut k = 0;

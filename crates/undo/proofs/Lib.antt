@@ -1,2 +1,3 @@
+pub mod HeldLaws
 pub mod UndoLaws
 pub mod UndoneLaws

@@ -1,5 +1,5 @@
 -- Laws of undoing a gate body into an area. Assumes nothing.
-use Prim.Native.Nat.{ℕ, _+_, _-_, _/_, _<_, _≤_}
+use Prim.Native.Nat.{ℕ, _+_, _*_, _-_, _/_, _<_, _≤_}
 use native.Mathlib.Omega.{arith}
 use mathlib.Core.Path.{_≡_, refl, sym, ap, ap₂, _∙_}
 use mathlib.Core.Bool.{true, false}
@@ -12,19 +12,19 @@ use Rattle.wire.specs.Answers.{Answer, result, refused, refuse, mapAnswer}
 use Rattle.wire.specs.Contents.{bodyOf}
 use Rattle.wire.specs.declared.refusals.Refusal.the-variants as cause
 use Rattle.gate.specs.declared.gates.Gate.{Gate}
-use Rattle.gate.specs.Gates.{target}
+use Rattle.gate.specs.Gates.{target, Fits}
 use Rattle.gate.specs.GateBytes.{gateAt}
 use Rattle.gate.specs.Running.{without, undo}
 use Rattle.gate.proofs.UndoLaws.{without-append, without-few, undo-snoc, undo-length, one-out, one-kept}
 use Rattle.gate.proofs.WellFormedLaws.{target-below}
 use Rattle.circuit.specs.declared.reader.CircuitHead.{CircuitHead}
-use Rattle.circuit.specs.Circuits.{Circuit, headOf, gatesIn}
-use Rattle.circuit.specs.Format.{fileLength, openingBytes, circuitFile, putGates, areaAfter, Small}
+use Rattle.circuit.specs.Circuits.{Circuit, headOf, gatesIn, InRange}
+use Rattle.circuit.specs.Format.{fileLength, openingBytes, circuitFile, putGates, areaAfter}
 use Rattle.circuit.specs.Reading.{readWithLines}
 use Rattle.circuit.proofs.AcceptedLaws.{accepted, legal, with-lines, lines-gates, reader-room}
 use Rattle.circuit.proofs.GateBodyLaws.{gates-from, gates-none, gates-whole, gates-last, gates-first-none, gate-formed}
 use Rattle.circuit.proofs.WriterLaws.{put-length, put-none, put-append, file-length, file-written}
-use Rattle.undo.specs.UndoCircuit.{chosen, undoCircuit, undoFile, Choosable, Undoable}
+use Rattle.undo.specs.UndoCircuit.{chosen, undoCircuit, undoFile}
 
 module _ (body choices : List ℕ) where
   abbrev kept : List Gate → List Gate
@@ -69,9 +69,9 @@ module _ (body choices : List ℕ) where
         omega (arith, p .rest, ap (λ (gs : List Gate). length (kept gs)) (gates-none body i (omega (arith, p .within))))
 
   -- a gate of a body that can be undone can be looked at
-  pub choosable : Undoable body choices → (i : ℕ) → i < length body / 8 → Choosable body i choices
+  pub choosable : Fits (gatesIn body) choices → (i : ℕ) → i < length body / 8 → (8 * (i + 1) ≤ length body) × (target (gateAt body i) < length choices)
   choosable w i h =
-      record { there = omega arith; line = target-below (length choices) (gateAt body i) (gate-formed body (length choices) w i h) }
+      (omega arith, target-below (length choices) (gateAt body i) (gate-formed body (length choices) w i h))
 
   abbrev undone : List Gate → List Gate
   undone = undo (chosen choices)
@@ -167,7 +167,7 @@ module _ (f choices area : List ℕ) where
           arith,
           without-few (chosen choices) gates,
           ap (λ (gs : List Gate). length gs) (lines-gates f choices c e),
-          legal f c (accepted f c (with-lines f choices c e .reads)) .gates-most,
+          legal f c (accepted f c (with-lines f choices c e .reads)) .numbers .gates-most,
         )
 
     fits : (k : ℕ) → k ≡ length (without (chosen choices) gates) → length (circuitFile (undoCircuit choices c)) ≡ fileLength k
@@ -188,15 +188,16 @@ module _ (f choices area : List ℕ) where
     undo-head h k p q =
         ap₂ (λ (x : CircuitHead) (n : ℕ). record { inputs = x .inputs; outputs = x .outputs; work = x .work; gates = n }) p (sym (undo-count k q))
 
-    pub undo-small : Small (headOf (undoCircuit choices c))
+    pub undo-range : InRange (headOf (undoCircuit choices c))
     unfolding undoCircuit
-    undo-small =
-        let l = legal f c (accepted f c (with-lines f choices c e .reads)) in
+    undo-range =
+        let n = legal f c (accepted f c (with-lines f choices c e .reads)) .numbers in
         record {
-          inputs-small = l .inputs-most;
-          outputs-small = l .outputs-most;
-          work-small = l .work-most;
-          gates-small = omega (arith, undo-count (length (without (chosen choices) gates)) refl, kept-few);
+          inputs-most = n .inputs-most;
+          outputs-some = n .outputs-some;
+          outputs-most = n .outputs-most;
+          work-most = n .work-most;
+          gates-most = omega (arith, undo-count (length (without (chosen choices) gates)) refl, kept-few);
         }
 
     -- room: the head and then the gates are written

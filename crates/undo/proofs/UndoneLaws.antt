@@ -24,7 +24,7 @@ use Rattle.circuit.proofs.AcceptedLaws.{accepted, formed, legal, with-lines}
 use Rattle.circuit.proofs.FileLaws.{reads-back}
 use Rattle.undo.specs.Theorems.{UndoReadsBack, UndoRestores}
 use Rattle.undo.specs.UndoCircuit.{chosen, undoCircuit, undoFile}
-use Rattle.undo.proofs.UndoLaws.{undo-small}
+use Rattle.undo.proofs.UndoLaws.{undo-range}
 
 -- a file that was undone: its circuit was read with the choices, and its undoing is what was written
 pub record Undid (f choices : List ℕ) (d : Circuit) : Type 0 where
@@ -49,19 +49,14 @@ module _ (f choices : List ℕ) (d : Circuit) (u : Undid f choices d) where
   undone-legal =
       let c : Circuit = u .from in
       let a = accepted f c (with-lines f choices c (u .reads) .reads) in
-      let l : Legal c = legal f c a in
       record {
-        inputs-most = l .inputs-most;
-        outputs-some = l .outputs-some;
-        outputs-most = l .outputs-most;
-        work-most = l .work-most;
-        gates-most = undo-small f choices [] c (u .reads) .gates-small;
+        numbers = undo-range f choices [] c (u .reads);
         formed = all-reverse (WellFormed (lineCount c)) (without (chosen choices) (c .gates)) (all-without (WellFormed (lineCount c)) (chosen choices) (c .gates) (formed f c a));
       }
 
   -- and has at most 8,000 gates
   pub undone-few : length (d .gates) ≤ 8000
-  undone-few = rw (u .is) at (undone-legal .gates-most)
+  undone-few = rw (u .is) at (undone-legal .numbers .gates-most)
 
 -- the file that undoing writes reads back
 pub undo-reads-back : UndoReadsBack

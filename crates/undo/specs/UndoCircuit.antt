@@ -1,5 +1,5 @@
 -- Undoing a circuit file except on chosen lines.
-use Prim.Native.Nat.{ℕ, _+_, _*_, _<_, _≤_}
+use Prim.Native.Nat.{ℕ}
 use mathlib.Core.Bool.{Bool}
 use mathlib.Core.List.{List}
 use lib.ListN.{length}
@@ -7,11 +7,9 @@ use lib.Dec.{eqb, leb}
 use Rattle.wire.specs.Answers.{Answer, result, refuse, check, andThen}
 use Rattle.wire.specs.Bits.{bit}
 use Rattle.wire.specs.declared.refusals.Refusal.the-variants as cause
-use Rattle.gate.specs.Gates.{target, WellFormed, All}
-use Rattle.gate.specs.GateBytes.{gateAt}
 use Rattle.gate.specs.Running.{undo}
 use Rattle.circuit.specs.declared.reader.CircuitHead.{CircuitHead}
-use Rattle.circuit.specs.Circuits.{Circuit, gatesIn}
+use Rattle.circuit.specs.Circuits.{Circuit}
 use Rattle.circuit.specs.Format.{circuitFile}
 use Rattle.circuit.specs.Reading.{readWithLines}
 use Rattle.undo.specs.declared.Undone.{Undone}
@@ -37,12 +35,3 @@ undoFile file choices room =
 abbrev pub undone : Undone → Answer CircuitHead
 undone (Written head) = result head
 undone (Refused why) = refuse why
-
--- gate i is there, and its target is one of the lines that the choices are for
-pub record Choosable (body : List ℕ) (i : ℕ) (choices : List ℕ) : Type 0 where
-  pub there : 8 * (i + 1) ≤ length body
-  pub line : target (gateAt body i) < length choices
-
--- a gate body whose gates are well formed on the lines that the choices are for
-abbrev pub Undoable : List ℕ → List ℕ → Type 0
-Undoable body choices = All (WellFormed (length choices)) (gatesIn body)

@@ -1,26 +1,28 @@
 // The service undo: the gates of a circuit file, reversed, without those whose target is chosen.
+mod writer;
+
+use crate::writer::append_gate;
 use circuit::layout::FIRST_GATE;
 use circuit::reader::CircuitHead;
 use circuit::reader::CircuitRead;
 use circuit::reader::gate_body;
 use circuit::reader::read_with_lines;
 use circuit::writer::clear;
-use circuit::writer::write_gate;
 use circuit::writer::write_head;
 use gate::gates::gate_at;
 use gate::gates::target_at;
 use wire::refusals::Refusal;
 ghost use mathlib.Core.Path.{_≡_};
 ghost use mathlib.Core.List.{_∷_, []};
-ghost use Prim.Native.Nat.{_+_, _≤_};
+ghost use Prim.Native.Nat.{_+_, _*_, _<_, _≤_};
 ghost use lib.ListN.{length};
 ghost use Rattle.wire.specs.Answers.{mapAnswer};
-ghost use Rattle.gate.specs.Gates.{target};
+ghost use Rattle.gate.specs.Gates.{target, Fits};
 ghost use Rattle.gate.specs.GateBytes.{gateAt};
 ghost use Rattle.gate.specs.Running.{without, undo};
 ghost use Rattle.circuit.specs.Circuits.{gatesIn, headOf};
 ghost use Rattle.circuit.specs.Format.{fileLength, putGates, areaAfter};
-ghost use Rattle.undo.specs.UndoCircuit.{chosen, undoFile, undone, Choosable, Undoable};
+ghost use Rattle.undo.specs.UndoCircuit.{chosen, undoFile, undone};
 
 // What undoing a circuit answers: the numbers of the circuit written.
 pub enum Undone {
@@ -40,7 +42,7 @@ fn refused(answer: CircuitRead) -> Undone
 
 // Whether the target of gate i is chosen, so that the gate is left out.
 fn left_out(gates: &[u8], i: usize, choices: &[u8]) -> bool
-    requires { ⌜ Choosable (now gates) i (now choices) ⌝ }
+    requires { ⌜ (8 * (i + 1) ≤ length (now gates)) × (target (gateAt (now gates) i) < length (now choices)) ⌝ }
     ensures { λ r. ⌜ r ≡ chosen (now (choices .entry)) (target (gateAt (now (gates .entry)) i)) ⌝ }
 {
     choices[target_at(gates, i) as usize] == 1
@@ -48,7 +50,7 @@ fn left_out(gates: &[u8], i: usize, choices: &[u8]) -> bool
 
 // How many gates of a gate body remain.
 fn count_kept(gates: &[u8], choices: &[u8]) -> usize
-    requires { ⌜ Undoable (now gates) (now choices) ⌝ }
+    requires { ⌜ Fits (gatesIn (now gates)) (now choices) ⌝ }
     ensures { λ r. ⌜ r ≡ length (without (chosen (now (choices .entry))) (gatesIn (now (gates .entry)))) ⌝ }
 {
     let mut kept = 0;
@@ -64,20 +66,20 @@ fn count_kept(gates: &[u8], choices: &[u8]) -> usize
 
 // Stores gate i as gate k of the area, unless it is left out; how many gates are then stored.
 fn append_kept(area: &mut [u8], k: usize, gates: &[u8], i: usize, choices: &[u8]) -> usize
-    requires { ⌜ Choosable (now gates) i (now choices) × (fileLength (k + length (without (chosen (now choices)) (gateAt (now gates) i ∷ []))) ≤ length (now area)) ⌝ }
+    requires { ⌜ (8 * (i + 1) ≤ length (now gates)) × (target (gateAt (now gates) i) < length (now choices)) ⌝ }
+    requires { ⌜ fileLength (k + length (without (chosen (now choices)) (gateAt (now gates) i ∷ []))) ≤ length (now area) ⌝ }
     ensures { λ r. ⌜ r ≡ k + length (without (chosen (now (choices .entry))) (gateAt (now (gates .entry)) i ∷ [])) ⌝ }
     ensures { λ _. ⌜ now (area .exit) ≡ putGates (now (area .entry)) k (without (chosen (now (choices .entry))) (gateAt (now (gates .entry)) i ∷ [])) ⌝ }
 {
     if left_out(gates, i, choices) {
         return k;
     }
-    write_gate(area, k, gate_at(gates, i));
-    k + 1
+    append_gate(area, k, gate_at(gates, i))
 }
 
 // Stores the gates of a gate body that remain, last to first.
 fn write_undone(gates: &[u8], choices: &[u8], area: &mut [u8])
-    requires { ⌜ Undoable (now gates) (now choices) × (fileLength (length (undo (chosen (now choices)) (gatesIn (now gates)))) ≤ length (now area)) ⌝ }
+    requires { ⌜ Fits (gatesIn (now gates)) (now choices) × (fileLength (length (undo (chosen (now choices)) (gatesIn (now gates)))) ≤ length (now area)) ⌝ }
     ensures { λ _. ⌜ now (area .exit) ≡ putGates (now (area .entry)) 0 (undo (chosen (now (choices .entry))) (gatesIn (now (gates .entry)))) ⌝ }
 {
     let mut k = 0;

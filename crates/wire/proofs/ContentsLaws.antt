@@ -8,10 +8,10 @@ use mathlib.Core.List.{List, [], _∷_, _++_}
 use lib.ListN.{length, getD, drop, length-take, length-drop}
 use lib.Seq.{drop-length, sets}
 use lib.Dec.{eqb, leb}
-use borrow.Author.Tests.{eqb-true, leb-true, eq-eqb, ne-eqb}
+use borrow.Author.Tests.{eqb-true, leb-true, leb-false, eq-eqb, ne-eqb}
 use Rattle.wire.specs.Bytes.{at16, bytes16, bytes32}
-use Rattle.wire.specs.Contents.{tableLength, tableFits, entryTag, entryStart, entryLength, bodyOf, entriesFrom, entriesFit, entriesBytes, contentsBytes, total}
-use Rattle.wire.proofs.CheckLaws.{both-first, both-second}
+use Rattle.wire.specs.Contents.{tableLength, tableFits, entryTag, entryStart, entryLength, bodyOf, entriesFrom, entriesFit, entriesBytes, contentsBytes, total, Laid}
+use Rattle.wire.proofs.CheckLaws.{both-first, both-second, by-test}
 use Rattle.wire.proofs.ListLaws.{drop-next, sets-then}
 
 -- a table that fits is whole
@@ -85,6 +85,36 @@ entry-first t ts i start f e =
 pub entries-end : (i start : ℕ) (f : List ℕ) → entriesFrom [] i start f ≡ true → start ≡ length f
 unfolding entriesFrom
 entries-end i start f e = eqb-true start (length f) e
+
+-- where the entries fit, each of the bodies lies within the file
+record Within (ts : List ℕ) (i start : ℕ) (f : List ℕ) : Type 0 where
+  pub from : start ≤ length f
+  pub each : (j : ℕ) → i ≤ j → j < i + length ts → entryStart f j + entryLength f j ≤ length f
+
+entries-within : (ts : List ℕ) (i start : ℕ) (f : List ℕ) → entriesFrom ts i start f ≡ true → Within ts i start f
+entries-within [] i start f e = record { from = omega (arith, entries-end i start f e); each = λ j a b. omega arith }
+entries-within (t ∷ ts) i start f e =
+    let h : Entry f t i start ts = entry-first t ts i start f e in
+    let rest : Within ts (suc i) (start + entryLength f i) f = entries-within ts (suc i) (start + entryLength f i) f (h .behind) in
+    record {
+      from = omega (arith, rest .from);
+      each =
+          λ j a b.
+          by-test (leb j i)
+          (λ s. let same : j ≡ i = omega (arith, leb-true j i s) in
+          rw same (omega (arith, h .starts, rest .from)))
+          (λ s. rest .each j (omega (arith, leb-false j i s)) (omega arith));
+    }
+
+pub laid : (tags f : List ℕ) → tableFits (length tags) f ≡ true → entriesFit tags f ≡ true → Laid (length tags) f
+unfolding entriesFit
+laid tags f t e =
+    let w : Within tags 0 (tableLength (length tags)) f = entries-within tags 0 (tableLength (length tags)) f e in
+    record { whole = table-whole (length tags) f t; within = λ i h. w .each i (omega arith) (omega arith) }
+
+-- an entry that is there names a body within the file
+pub body-there : {k : ℕ} {f : List ℕ} → Laid k f → (i : ℕ) → i < k → (tableLength (i + 1) ≤ length f) × (entryStart f i + entryLength f i ≤ length f)
+body-there l i h = (omega (arith, l .whole), l .within i h)
 
 -- the entries behind the first i, stored from where those end, and one turn of storing them
 pub entries-next : (tags lengths : List ℕ) (i start : ℕ) → i < length tags → length lengths ≡ length tags

@@ -5,41 +5,36 @@ use Rattle.wire.specs.Checks.{allBelow, lowest}
 use Rattle.wire.specs.declared.refusals.Refusal.{Refusal}
 use Rattle.wire.specs.declared.refusals.Refusal.the-variants as cause
 
--- the number of each cause, as 01's table has it
-abbrev pub numberOf : Refusal → ℕ
-numberOf cause.Table = 1
-numberOf cause.Contents = 2
-numberOf cause.BodyLength = 3
-numberOf cause.Range = 4
-numberOf (cause.Node i) = 5
-numberOf (cause.Output k) = 6
-numberOf cause.ListLength = 7
-numberOf (cause.Size k) = 8
-numberOf cause.Grant = 9
-numberOf (cause.WorkLines w) = 10
-numberOf (cause.Room g) = 11
-numberOf (cause.Gate i) = 12
-numberOf cause.LineBytes = 13
-numberOf cause.InputBytes = 14
-numberOf cause.OutputNumber = 15
+-- what a cause is told by: its number, and its place (01), which is 0 unless the cause holds one
+pub record Numbered : Type 0 where
+  pub number : ℕ
+  pub place : ℕ
 
--- the place of a refusal (01): what its cause holds, or 0
+-- the number and the place of each cause, as 01's table has them
+abbrev pub numbered : Refusal → Numbered
+numbered cause.Table = record { number = 1; place = 0 }
+numbered cause.Contents = record { number = 2; place = 0 }
+numbered cause.BodyLength = record { number = 3; place = 0 }
+numbered cause.Range = record { number = 4; place = 0 }
+numbered (cause.Node i) = record { number = 5; place = i }
+numbered (cause.Output k) = record { number = 6; place = k }
+numbered cause.ListLength = record { number = 7; place = 0 }
+numbered (cause.Size k) = record { number = 8; place = k }
+numbered cause.Grant = record { number = 9; place = 0 }
+numbered (cause.WorkLines w) = record { number = 10; place = w }
+numbered (cause.Room g) = record { number = 11; place = g }
+numbered (cause.Gate i) = record { number = 12; place = i }
+numbered cause.LineBytes = record { number = 13; place = 0 }
+numbered cause.InputBytes = record { number = 14; place = 0 }
+numbered cause.OutputNumber = record { number = 15; place = 0 }
+
+-- the number of a refusal
+abbrev pub numberOf : Refusal → ℕ
+numberOf why = numbered why .number
+
+-- the place of a refusal
 abbrev pub placeOf : Refusal → ℕ
-placeOf cause.Table = 0
-placeOf cause.Contents = 0
-placeOf cause.BodyLength = 0
-placeOf cause.Range = 0
-placeOf (cause.Node i) = i
-placeOf (cause.Output k) = k
-placeOf cause.ListLength = 0
-placeOf (cause.Size k) = k
-placeOf cause.Grant = 0
-placeOf (cause.WorkLines w) = w
-placeOf (cause.Room g) = g
-placeOf (cause.Gate i) = i
-placeOf cause.LineBytes = 0
-placeOf cause.InputBytes = 0
-placeOf cause.OutputNumber = 0
+placeOf why = numbered why .place
 
 -- an answer: the values of a result, or the number and place of a refusal
 pub data Answer (A : Type 0) : Type 0 where

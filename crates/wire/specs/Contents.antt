@@ -41,6 +41,11 @@ entriesFrom (t ∷ ts) i start f =
 unfoldable pub entriesFit : List ℕ → List ℕ → Bool
 entriesFit tags f = entriesFrom tags 0 (tableLength (length tags)) f
 
+-- a file of k bodies, each of which lies within it, behind the table
+pub record Laid (k : ℕ) (f : List ℕ) : Type 0 where
+  pub whole : tableLength k ≤ length f
+  pub within : (i : ℕ) → i < k → entryStart f i + entryLength f i ≤ length f
+
 -- the bytes of the entries with these tags and lengths, the first body starting at start
 unfoldable pub entriesBytes : List ℕ → List ℕ → ℕ → List ℕ
 entriesBytes (t ∷ ts) (l ∷ ls) start = bytes16 t ++ (bytes32 start ++ (bytes32 l ++ entriesBytes ts ls (start + l)))

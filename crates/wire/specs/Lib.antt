@@ -3,4 +3,5 @@ pub mod Bits
 pub mod Bytes
 pub mod Checks
 pub mod Contents
+pub mod Counts
 pub mod Lists

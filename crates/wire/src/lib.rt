@@ -3,5 +3,6 @@
 pub mod bits;
 pub mod checks;
 pub mod contents;
+pub mod counts;
 pub mod numbers;
 pub mod refusals;

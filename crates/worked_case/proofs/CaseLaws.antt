@@ -9,7 +9,7 @@ use Rattle.wire.specs.Checks.{allBelow, lowestFrom}
 use Rattle.wire.specs.Lists.{tabulateFrom}
 use Rattle.wire.proofs.CheckLaws.{all-below}
 use Rattle.wire.proofs.ListLaws.{tabulate-length, tabulate-at}
-use Rattle.circuit.specs.Format.{Small}
+use Rattle.circuit.specs.Circuits.{InRange}
 use Rattle.program.specs.declared.node.Node.the-variants.{Zero}
 use Rattle.program.specs.Exprs.{Expr, INPUT, AND, size}
 use Rattle.program.specs.Nodes.{nodeAt, nodesIn, nodeFits, operandsFit}
@@ -73,14 +73,15 @@ case-countable =
     }
 
 -- its head's numbers fit their fields
-pub case-small : {r : Needs} → Needed (treesIn nodes outputs) r → Small (record { inputs = 4; outputs = 1; work = r .lines; gates = r .gates })
+pub case-range : {r : Needs} → Needed (treesIn nodes outputs) r → InRange (record { inputs = 4; outputs = 1; work = r .lines; gates = r .gates })
 unfolding gatesShown
-case-small n =
+case-range n =
     record {
-      inputs-small = omega arith;
-      outputs-small = omega arith;
-      work-small = omega (arith, n .lines-are, case-lines);
-      gates-small = omega (arith, n .gates-are, case-gates);
+      inputs-most = omega arith;
+      outputs-some = omega arith;
+      outputs-most = omega arith;
+      work-most = omega (arith, n .lines-are, case-lines);
+      gates-most = omega (arith, n .gates-are, case-gates);
     }
 
 -- and an area of 132 bytes has room for it

@@ -11,10 +11,10 @@ use Rattle.compile.proofs.write_circuit.Statement.{statement}
 use Rattle.compile.proofs.write_circuit.Tie as tie
 
 write-head-requires : tie.Need-write-head-requires
-write-head-requires c κs = let p = c .before .before .before .before .pre in (p .small, omega (arith, p .writable .room))
+write-head-requires c κs = let p = c .before .before .before .before .pre in (p .0, omega (arith, p .1 .room))
 
 write-shares-requires : tie.Need-write-shares-requires
-write-shares-requires c κs = writable-same (c .before .before .before .before .before .before .before .before .pre .writable) (c .before .before .before .write-head .kept .0)
+write-shares-requires c κs = writable-same (c .before .before .before .before .before .before .before .before .pre .1) (c .before .before .before .write-head .kept .0)
 
 same-length : tie.Need-same-length
 same-length c = search needs

@@ -9,7 +9,7 @@ use native.Mathlib.Omega.{arith}
 use borrow.Author.Tests.{not-true, not-false}
 use Rattle.program.proofs.AcceptedLaws.{Read, read, read-refused}
 use Rattle.evaluate.specs.Evaluating.{evaluated}
-use Rattle.evaluate.proofs.EvaluateLaws.{reader-refuses, list-short, inputs-bad, output-bad, Ready, fillable, output-there, node-there, output-found}
+use Rattle.evaluate.proofs.EvaluateLaws.{reader-refuses, list-short, inputs-bad, output-bad, Ready, fillable, input-bits, output-there, node-there, output-found}
 use borrow.Author.Needs.{needs}
 use Rattle.evaluate.proofs.evaluate.Statement.{statement}
 use Rattle.evaluate.proofs.evaluate.Tie as tie
@@ -106,7 +106,9 @@ node-body-requires c κs = good (c .before .before .before .before .before .befo
 fill-values-requires : tie.Need-fill-values-requires
 fill-values-requires c κs =
     let a = c .before .before .before .before .before .before .before .before .before .before .before .before .before .before .args in
-    rw (c .before .node-body .ensures) (fillable (a .file .now) (a .values .now) (a .inputs .now) (a .output) (good (c .before .before .before .before .before .before .before .before)) (ready (c .before .before)))
+    let read = good (c .before .before .before .before .before .before .before .before) in
+    let fits = fillable (a .file .now) (a .values .now) (a .inputs .now) (a .output) read (ready (c .before .before)) in
+    (rw (c .before .node-body .ensures) fits, input-bits (a .file .now) (a .values .now) (a .inputs .now) (a .output) read (ready (c .before .before)))
 
 output-body-requires : tie.Need-output-body-requires
 output-body-requires c κs = good (c .before .before .before .before .before .before .before .before .before .before .before) .accepts .sized .laid

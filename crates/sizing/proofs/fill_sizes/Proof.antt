@@ -8,7 +8,8 @@ use Rattle.wire.proofs.FillLaws.{Filled, filled-start}
 use Rattle.program.specs.declared.node.Node.{Node}
 use Rattle.program.specs.Nodes.{nodesIn}
 use Rattle.sizing.specs.Sizing.{nodeSize, nodeSizes}
-use Rattle.sizing.proofs.SizeLaws.{filled-known, size-stored, sizes-stored}
+use Rattle.sizing.proofs.SizeLaws.{size-stored, sizes-stored}
+use Rattle.program.proofs.TreeLaws.{next-ok}
 use Rattle.sizing.proofs.fill_sizes.Statement.{statement}
 use Rattle.sizing.proofs.fill_sizes.Tie as tie
 
@@ -25,19 +26,21 @@ node-at-requires : tie.Need-node-at-requires Inv-loop μ-loop
 node-at-requires c κs = search needs
 
 slice-reshare-prefix-node-size : tie.Need-slice-reshare-prefix-node-size Inv-loop μ-loop
-slice-reshare-prefix-node-size c = omega (arith, c .before .loop-test .taken, c .before .before .loop .inv .same, c .before .before .before .before .before .pre .fits)
+slice-reshare-prefix-node-size c = omega (arith, c .before .loop-test .taken, c .before .before .loop .inv .same, c .before .before .before .before .before .pre .1 .fits)
 
 slice-aggregate-node-size : tie.Need-slice-aggregate-node-size Inv-loop μ-loop
-slice-aggregate-node-size c = sym (length-take-le _ _ (omega (arith, c .before .before .loop-test .taken, c .before .before .before .loop .inv .same, c .before .before .before .before .before .before .pre .fits)))
+slice-aggregate-node-size c = sym (length-take-le _ _ (omega (arith, c .before .before .loop-test .taken, c .before .before .before .loop .inv .same, c .before .before .before .before .before .before .pre .1 .fits)))
 
 node-size-requires : tie.Need-node-size-requires Inv-loop μ-loop
-node-size-requires c κs = rw (c .before .node-at .ensures) (filled-known _ (c .before .before .before .loop .inv) (c .before .before .before .before .before .before .pre) (c .before .before .loop-test .taken))
+node-size-requires c κs =
+    let pre = c .before .before .before .before .before .before .pre in
+    (pre .0, rw (c .before .node-at .ensures) (next-ok _ _ (c .before .before .loop-test .taken) _ (pre .1) (c .before .before .before .loop .inv .same)))
 
 mul-sizes : tie.Need-mul-sizes Inv-loop μ-loop
 mul-sizes c = omega (arith, c .before .before .before .loop-test .taken)
 
 slice-write-sizes : tie.Need-slice-write-sizes Inv-loop μ-loop
-slice-write-sizes c = omega (arith, c .before .before .before .loop-test .taken, c .before .before .before .before .loop .inv .same, c .before .before .before .before .before .before .before .pre .fits)
+slice-write-sizes c = omega (arith, c .before .before .before .loop-test .taken, c .before .before .before .before .loop .inv .same, c .before .before .before .before .before .before .before .pre .1 .fits)
 
 add-i : tie.Need-add-i Inv-loop μ-loop
 add-i c = search needs
@@ -49,7 +52,7 @@ loop-again : tie.Need-loop-again Inv-loop μ-loop
 loop-again c =
     let at = c .before .before .before .before .loop in
     let size = c .node-size .ensures ∙ ap (λ (o : Node). nodeSize o (take (at .i) (at .sizes))) (c .before .before .node-at .ensures) in
-    size-stored _ (at .inv) (c .before .before .before .before .before .before .before .pre) (c .before .before .before .loop-test .taken) size
+    size-stored _ (at .inv) (c .before .before .before .before .before .before .before .pre .1) (c .before .before .before .loop-test .taken) size
 
 same-length : tie.Need-same-length Inv-loop μ-loop
 same-length c = c .before .loop .inv .same

@@ -2,7 +2,7 @@ use mathlib.Core.Path.{refl, ap, _∙_}
 use native.Mathlib.Nat.{add-zero}
 use native.Mathlib.Omega.{arith}
 use Rattle.sizing.specs.Sizing.{shown, nodeSize}
-use Rattle.sizing.proofs.SizeLaws.{not-operand, xor-operands, and-operands}
+use Rattle.program.proofs.NodeLaws.{not-operand, xor-operands, and-operands}
 use borrow.Author.Needs.{needs}
 use Rattle.sizing.proofs.node_size.Statement.{statement}
 use Rattle.sizing.proofs.node_size.Tie as tie
@@ -26,7 +26,7 @@ mul-joined : tie.Need-mul-joined
 mul-joined c = search needs
 
 shared-slice-read-joined : tie.Need-shared-slice-read-joined
-shared-slice-read-joined c = not-operand (c .before .before .before .before .before .pre) (c .before .before .node .given .1)
+shared-slice-read-joined c = not-operand _ _ (c .before .before .before .before .before .pre .1) (c .before .before .node .given .1)
 
 joined-requires : tie.Need-joined-requires
 joined-requires c κs = search needs
@@ -42,7 +42,7 @@ mul-joined-2 c = search needs
 
 shared-slice-read-joined-2 : tie.Need-shared-slice-read-joined-2
 shared-slice-read-joined-2 c =
-    let o = xor-operands (c .before .before .before .before .before .pre) (c .before .before .node2 .given .1) in
+    let o = xor-operands _ _ (c .before .before .before .before .before .pre .1) (c .before .before .node2 .given .1) in
     omega (arith, o .0, o .1)
 
 cast-joined-3 : tie.Need-cast-joined-3
@@ -53,7 +53,7 @@ mul-joined-3 c = search needs
 
 shared-slice-read-joined-3 : tie.Need-shared-slice-read-joined-3
 shared-slice-read-joined-3 c =
-    let o = xor-operands (c .before .before .before .before .before .before .pre) (c .before .before .before .node2 .given .1) in
+    let o = xor-operands _ _ (c .before .before .before .before .before .before .pre .1) (c .before .before .before .node2 .given .1) in
     omega (arith, o .0, o .1)
 
 joined-requires-2 : tie.Need-joined-requires-2
@@ -70,7 +70,7 @@ mul-joined-4 c = search needs
 
 shared-slice-read-joined-4 : tie.Need-shared-slice-read-joined-4
 shared-slice-read-joined-4 c =
-    let o = and-operands (c .before .before .before .before .before .pre) (c .before .before .node3 .given .1) in
+    let o = and-operands _ _ (c .before .before .before .before .before .pre .1) (c .before .before .node3 .given .1) in
     omega (arith, o .0, o .1)
 
 cast-joined-5 : tie.Need-cast-joined-5
@@ -81,7 +81,7 @@ mul-joined-5 c = search needs
 
 shared-slice-read-joined-5 : tie.Need-shared-slice-read-joined-5
 shared-slice-read-joined-5 c =
-    let o = and-operands (c .before .before .before .before .before .before .pre) (c .before .before .before .node3 .given .1) in
+    let o = and-operands _ _ (c .before .before .before .before .before .before .pre .1) (c .before .before .before .node3 .given .1) in
     omega (arith, o .0, o .1)
 
 joined-requires-3 : tie.Need-joined-requires-3

@@ -4,9 +4,9 @@ use Rattle.undo.proofs.append_kept.Tie as tie
 use Rattle.undo.proofs.append_kept.Reads as reads
 use Rattle.undo.proofs.append_kept.Lts as lts
 use Rattle.undo.proofs.left_out.Reads as left-out-reads
-use Rattle.circuit.proofs.writer.write_gate.Reads as write-gate-reads
+use Rattle.undo.proofs.writer.append_gate.Reads as append-gate-reads
 use Rattle.gate.proofs.gates.gate_at.Reads as gate-at-reads
-use mathlib.Core.Path.{_≡_, refl, sym, ap, _∙_}
+use mathlib.Core.Path.{_≡_, sym, ap, _∙_}
 use mathlib.Core.List.{List, [], _∷_}
 use native.Mathlib.Nat.{add-zero}
 use native.Mathlib.Omega.{arith}
@@ -25,8 +25,8 @@ claims = (
   left-out-reads.Learnt,
   gate-at-reads.Asked,
   gate-at-reads.Learnt,
-  write-gate-reads.Asked,
-  write-gate-reads.Learnt,
+  append-gate-reads.Asked,
+  append-gate-reads.Learnt,
 )
 
 -- the gate is kept
@@ -42,20 +42,17 @@ returns c = let a = c .before .before .before .before .before .args in
     rw none (sym (add-zero (a .k)), sym (put-none (a .area .now) (a .k)))
 
 gate-at-requires : tie.Need-gate-at-requires
-gate-at-requires c κs = c .before .before .before .before .before .before .pre .0 .there
+gate-at-requires c κs = c .before .before .before .before .before .before .pre .0 .0
 
-write-gate-requires : tie.Need-write-gate-requires
-write-gate-requires c κs = omega (arith, ap (λ (gs : List Gate). length gs) (kept (c .before .before)), c .before .before .before .before .before .before .before .pre .1)
-
-add-result : tie.Need-add-result
-add-result c = search needs
+append-gate-requires : tie.Need-append-gate-requires
+append-gate-requires c κs = omega (arith, ap (λ (gs : List Gate). length gs) (kept (c .before .before)), c .before .before .before .before .before .before .before .pre .1)
 
 same-length : tie.Need-same-length
 same-length c = search needs
 
 returns-2 : tie.Need-returns-2
 returns-2 c = let a = c .before .before .before .before .before .before .before .before .before .before .args in
-    rw (kept (c .before .before .before .before .before)) (refl, c .before .before .write-gate .ensures ∙ ap (λ (g : Gate). putGates (a .area .now) (a .k) (g ∷ [])) (c .before .before .before .gate-at .ensures))
+    rw (kept (c .before .before .before .before .before)) (c .before .before .append-gate .ensures .0, c .before .before .append-gate .ensures .1 ∙ ap (λ (g : Gate). putGates (a .area .now) (a .k) (g ∷ [])) (c .before .before .before .gate-at .ensures))
 
 pub append-kept-spec : {M : Type 1} → statement M
 append-kept-spec =
@@ -64,7 +61,6 @@ append-kept-spec =
     left-out-requires
     returns
     gate-at-requires
-    write-gate-requires
-    add-result
+    append-gate-requires
     same-length
     returns-2)

@@ -19,7 +19,7 @@ loop-holds : tie.Need-loop-holds Inv-loop μ-loop
 loop-holds c = counted-start _ _
 
 left-out-requires : tie.Need-left-out-requires Inv-loop μ-loop
-left-out-requires c κs = choosable _ _ (c .before .before .before .before .pre) (c .before .loop .i) (c .loop-test .taken)
+left-out-requires c κs = choosable (c .before .before .before .before .args .gates .now) (c .before .before .before .before .args .choices .now) (c .before .before .before .before .pre) (c .before .loop .i) (c .loop-test .taken)
 
 add-kept : tie.Need-add-kept Inv-loop μ-loop
 add-kept c = omega (arith, c .before .before .before .loop .inv .few, c .before .before .loop-test .taken)

@@ -27,7 +27,7 @@ use Rattle.circuit.specs.Format.{openingBytes}
 use Rattle.circuit.specs.Reading.{readWithLines, circuitRead}
 use Rattle.undo.specs.UndoCircuit.{chosen, undoCircuit, undone}
 use Rattle.circuit.proofs.AcceptedLaws.{lines-laid, lines-formed}
-use Rattle.undo.proofs.UndoLaws.{undo-refused, undo-room, undo-head, undo-small, undo-written, kept-few}
+use Rattle.undo.proofs.UndoLaws.{undo-refused, undo-room, undo-head, undo-range, undo-written, kept-few}
 
 abbrev claims : lts.Claims
 claims = (
@@ -114,7 +114,7 @@ returns-2 c = let a = c .before .before .before .before .before .before .before 
 
 write-head-requires : tie.Need-write-head-requires
 write-head-requires c κs = let a = c .before .before .before .before .before .before .before .before .before .before .before .args in
-    (rw (head (c .before .before)) (undo-small (a .file .now) (a .choices .now) (a .area .now) (good (c .before .before .before .before .before) .from) (good (c .before .before .before .before .before) .was)), omega (arith, c .before .if1 .left))
+    (rw (head (c .before .before)) (undo-range (a .file .now) (a .choices .now) (a .area .now) (good (c .before .before .before .before .before) .from) (good (c .before .before .before .before .before) .was)), omega (arith, c .before .if1 .left))
 
 write-undone-requires : tie.Need-write-undone-requires
 write-undone-requires c κs = let a = c .before .before .before .before .before .before .before .before .before .before .before .before .before .before .before .args in

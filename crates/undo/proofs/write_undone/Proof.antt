@@ -20,7 +20,8 @@ sub-i c = search needs
 append-kept-requires : tie.Need-append-kept-requires Inv-loop μ-loop
 append-kept-requires c κs = let at = c .before .before .loop in
     let more = c .before .loop-test .taken in
-    (choosable _ _ (c .before .before .before .before .before .before .pre .0) (at .i - 1) (omega (arith, at .inv .within, more)), stored-room _ _ _ (at .inv) more (c .before .before .before .before .before .before .pre .1))
+    let a = c .before .before .before .before .before .before .args in
+    (choosable (a .gates .now) (a .choices .now) (c .before .before .before .before .before .before .pre .0) (at .i - 1) (omega (arith, at .inv .within, more)), stored-room _ _ _ (at .inv) more (c .before .before .before .before .before .before .pre .1))
 
 loop-less : tie.Need-loop-less Inv-loop μ-loop
 loop-less c = search needs

@@ -2,7 +2,7 @@ use borrow.Author.Needs.{needs}
 use Rattle.worked_case.proofs.main.Statement.{statement}
 use Rattle.worked_case.proofs.main.Tie as tie
 use native.Mathlib.Omega.{arith}
-use Rattle.worked_case.proofs.CaseLaws.{case-countable, case-small, case-writable}
+use Rattle.worked_case.proofs.CaseLaws.{case-countable, case-range, case-writable}
 
 count-shares-requires : tie.Need-count-shares-requires
 count-shares-requires c κs = case-countable
@@ -11,7 +11,7 @@ slice-aggregate-write-head : tie.Need-slice-aggregate-write-head
 slice-aggregate-write-head c = search needs
 
 write-head-requires : tie.Need-write-head-requires
-write-head-requires c κs = (case-small (c .before .count-shares .ensures), omega arith)
+write-head-requires c κs = (case-range (c .before .count-shares .ensures), omega arith)
 
 slice-aggregate-write-shares : tie.Need-slice-aggregate-write-shares
 slice-aggregate-write-shares c = search needs

@@ -15,16 +15,17 @@ use Rattle.circuit.specs.Format.{headLength}
 use Rattle.circuit.proofs.ReadingLaws.{head-long, head-read}
 use Prim.Native.Nat.{_/_}
 use Rattle.wire.specs.Bytes.{at16}
+use Rattle.wire.proofs.ContentsLaws.{body-there}
 
 abbrev claims : lts.Claims
 claims = (body-reads.Asked, body-reads.Learnt, get16-reads.Asked, get16-reads.Learnt, entry-length-reads.Asked, entry-length-reads.Learnt)
 
 -- the head's body is as long as the layout asks for
 long : (c : lts.After-body claims reads.Pre reads.Post) → length (c .body .result .now) ≡ headLength
-long c = ap (λ (l : List ℕ). length l) (c .body .ensures) ∙ head-long (c .before .before .args .file .now) (c .before .before .pre .laid) ∙ c .before .before .pre .head
+long c = ap (λ (l : List ℕ). length l) (c .body .ensures) ∙ head-long (c .before .before .args .file .now) (c .before .before .pre .0) ∙ c .before .before .pre .1
 
 body-requires : tie.Need-body-requires
-body-requires c κs = search needs
+body-requires c κs = body-there (c .before .pre .0) 0 (omega arith)
 
 get16-requires : tie.Need-get16-requires
 get16-requires c κs = omega (arith, long c)

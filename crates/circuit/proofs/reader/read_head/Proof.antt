@@ -2,12 +2,11 @@ use mathlib.Core.Path.{_≡_, sym, ap, _∙_}
 use Rattle.wire.specs.Answers.{result}
 use mathlib.Core.Bool.{true}
 use borrow.Author.Tests.{not-true, not-false}
-use Rattle.wire.specs.Contents.{tableFits, entriesFit}
-use Rattle.wire.proofs.ContentsLaws.{table-whole}
-use Rattle.circuit.specs.Layout.{Laid, Sized}
-use Rattle.circuit.specs.Format.{tags}
+use Rattle.wire.specs.Contents.{tableFits, entriesFit, entryLength, Laid}
+use Rattle.wire.proofs.ContentsLaws.{table-whole, laid}
+use Rattle.circuit.specs.Format.{tags, headLength}
 use Rattle.circuit.specs.Reading.{lengthsFit, rangesFit, readHead}
-use Rattle.circuit.proofs.ReadingLaws.{laid, sized}
+use Rattle.circuit.proofs.ReadingLaws.{sized}
 use borrow.Author.Needs.{needs}
 use Rattle.circuit.proofs.reader.read_head.Statement.{statement}
 use Rattle.circuit.proofs.reader.read_head.Tie as tie
@@ -47,11 +46,11 @@ ranges : (c : lts.Else4 claims reads.Pre reads.Post) → rangesFit (c .before .b
 ranges c = sym (c .before .ranges-fit .ensures) ∙ not-false _ (c .if4 .left)
 
 -- and what they say of the file
-laid-at : (c : lts.Else2 claims reads.Pre reads.Post) → Laid (c .before .before .before .before .before .before .args .file .now)
-laid-at c = laid (c .before .before .before .before .before .before .args .file .now) (table (c .before .before .before)) (entries c)
+laid-at : (c : lts.Else2 claims reads.Pre reads.Post) → Laid 2 (c .before .before .before .before .before .before .args .file .now)
+laid-at c = laid tags (c .before .before .before .before .before .before .args .file .now) (table (c .before .before .before)) (entries c)
 
-sized-at : (c : lts.Else3 claims reads.Pre reads.Post) → Sized (c .before .before .before .before .before .before .before .before .args .file .now)
-sized-at c = sized (c .before .before .before .before .before .before .before .before .args .file .now) (laid-at (c .before .before)) (lengths c)
+opening : (c : lts.Else3 claims reads.Pre reads.Post) → Laid 2 (c .before .before .before .before .before .before .before .before .args .file .now) × (entryLength (c .before .before .before .before .before .before .before .before .args .file .now) 0 ≡ headLength)
+opening c = (laid-at (c .before .before), sized _ (laid-at (c .before .before)) (lengths c) .head)
 
 table-fits-requires : tie.Need-table-fits-requires
 table-fits-requires c κs = search needs
@@ -78,14 +77,14 @@ unfolding readHead
 returns-3 c = simp (table (c .before .before .before .before .before), entries (c .before .before), sym (c .before .lengths-fit .ensures) ∙ not-true _ (c .if3 .taken))
 
 ranges-fit-requires : tie.Need-ranges-fit-requires
-ranges-fit-requires c κs = sized-at c
+ranges-fit-requires c κs = opening c
 
 returns-4 : tie.Need-returns-4
 unfolding readHead
 returns-4 c = simp (table (c .before .before .before .before .before .before .before), entries (c .before .before .before .before), lengths (c .before .before), sym (c .before .ranges-fit .ensures) ∙ not-true _ (c .if4 .taken))
 
 head-in-requires : tie.Need-head-in-requires
-head-in-requires c κs = sized-at (c .before .before)
+head-in-requires c κs = opening (c .before .before)
 
 returns-5 : tie.Need-returns-5
 unfolding readHead

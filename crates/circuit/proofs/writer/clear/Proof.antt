@@ -4,16 +4,17 @@ use borrow.Author.Needs.{needs}
 use Prim.Native.Nat.{_-_}
 use native.Mathlib.Omega.{arith}
 use lib.ListN.{length}
-use Rattle.circuit.proofs.WriterLaws.{Cleared, cleared-start, cleared-next, cleared-all}
+use Rattle.wire.proofs.FillLaws.{Filled, filled-start}
+use Rattle.circuit.proofs.WriterLaws.{zeros, cleared-next, cleared-all}
 
 abbrev Inv-loop : tie.InvT-loop
-Inv-loop area₀ i₀ area i = Cleared area₀ area i
+Inv-loop area₀ i₀ area i = Filled (zeros area₀) area₀ area i
 
 abbrev μ-loop : tie.MeasureT-loop
 μ-loop area₀ i₀ area i = length area₀ - i
 
 loop-holds : tie.Need-loop-holds Inv-loop μ-loop
-loop-holds c = cleared-start _
+loop-holds c = filled-start
 
 slice-write-area : tie.Need-slice-write-area Inv-loop μ-loop
 slice-write-area c = search needs

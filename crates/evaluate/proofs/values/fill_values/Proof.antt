@@ -9,7 +9,8 @@ use Rattle.wire.proofs.FillLaws.{Filled, filled-start}
 use Rattle.program.specs.declared.node.Node.{Node}
 use Rattle.program.specs.Nodes.{nodesIn}
 use Rattle.program.specs.Programs.{nodeValue, nodeValues}
-use Rattle.evaluate.proofs.FillLaws.{filled-valued, value-stored, values-stored}
+use Rattle.evaluate.proofs.FillLaws.{front-bits, value-stored, values-stored}
+use Rattle.program.proofs.TreeLaws.{next-ok}
 use Rattle.evaluate.proofs.values.fill_values.Statement.{statement}
 use Rattle.evaluate.proofs.values.fill_values.Tie as tie
 
@@ -26,16 +27,20 @@ node-at-requires : tie.Need-node-at-requires Inv-loop μ-loop
 node-at-requires c κs = search needs
 
 slice-reshare-prefix-node-value : tie.Need-slice-reshare-prefix-node-value Inv-loop μ-loop
-slice-reshare-prefix-node-value c = omega (arith, c .before .loop-test .taken, c .before .before .loop .inv .same, c .before .before .before .before .before .before .pre .fits)
+slice-reshare-prefix-node-value c = omega (arith, c .before .loop-test .taken, c .before .before .loop .inv .same, c .before .before .before .before .before .before .pre .0 .fits)
 
 slice-aggregate-node-value : tie.Need-slice-aggregate-node-value Inv-loop μ-loop
-slice-aggregate-node-value c = sym (length-take-le _ _ (omega (arith, c .before .before .loop-test .taken, c .before .before .before .loop .inv .same, c .before .before .before .before .before .before .before .pre .fits)))
+slice-aggregate-node-value c = sym (length-take-le _ _ (omega (arith, c .before .before .loop-test .taken, c .before .before .before .loop .inv .same, c .before .before .before .before .before .before .before .pre .0 .fits)))
 
 node-value-requires : tie.Need-node-value-requires Inv-loop μ-loop
-node-value-requires c κs = rw (c .before .node-at .ensures) (filled-valued _ _ (c .before .before .before .loop .inv) (c .before .before .before .before .before .before .before .pre) (c .before .before .loop-test .taken))
+node-value-requires c κs =
+    let inv = c .before .before .before .loop .inv in
+    let pre = c .before .before .before .before .before .before .before .pre in
+    let there = c .before .before .loop-test .taken in
+    (rw (c .before .node-at .ensures) (next-ok _ _ there _ (pre .0) (inv .same)), (front-bits _ _ inv (pre .0) there (pre .1), pre .1))
 
 slice-write-values : tie.Need-slice-write-values Inv-loop μ-loop
-slice-write-values c = omega (arith, c .before .before .before .loop-test .taken, c .before .before .before .before .loop .inv .same, c .before .before .before .before .before .before .before .before .pre .fits)
+slice-write-values c = omega (arith, c .before .before .before .loop-test .taken, c .before .before .before .before .loop .inv .same, c .before .before .before .before .before .before .before .before .pre .0 .fits)
 
 add-i : tie.Need-add-i Inv-loop μ-loop
 add-i c = search needs
@@ -48,7 +53,7 @@ loop-again c =
     let a = c .before .before .before .before .before .before .before .before .args in
     let at = c .before .before .before .before .loop in
     let value = c .node-value .ensures ∙ ap (λ (o : Node). nodeValue o (take (at .i) (at .values)) (a .inputs .now)) (c .before .before .node-at .ensures) in
-    value-stored _ _ (at .inv) (c .before .before .before .before .before .before .before .before .pre) (c .before .before .before .loop-test .taken) value
+    value-stored _ _ (at .inv) (c .before .before .before .before .before .before .before .before .pre .0) (c .before .before .before .loop-test .taken) value
 
 same-length : tie.Need-same-length Inv-loop μ-loop
 same-length c = c .before .loop .inv .same

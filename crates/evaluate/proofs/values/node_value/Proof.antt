@@ -1,7 +1,7 @@
 use mathlib.Core.Path.{refl}
 use native.Mathlib.Omega.{arith}
 use Rattle.program.specs.Programs.{nodeValue}
-use Rattle.evaluate.proofs.FillLaws.{input-there, not-operand, xor-operands, and-operands}
+use Rattle.program.proofs.NodeLaws.{input-below, not-operand, xor-operands, and-operands}
 use borrow.Author.Needs.{needs}
 use Rattle.evaluate.proofs.values.node_value.Statement.{statement}
 use Rattle.evaluate.proofs.values.node_value.Tie as tie
@@ -19,7 +19,7 @@ cast-result : tie.Need-cast-result
 cast-result c = search needs
 
 shared-slice-read-result : tie.Need-shared-slice-read-result
-shared-slice-read-result c = input-there (c .before .before .before .before .before .before .pre) (c .before .before .node .given .1)
+shared-slice-read-result c = input-below _ _ (c .before .before .before .before .before .before .pre .0) (c .before .before .node .given .1)
 
 enum-known-node-2 : tie.Need-enum-known-node-2
 enum-known-node-2 c = search needs
@@ -28,10 +28,10 @@ cast-xor-bits : tie.Need-cast-xor-bits
 cast-xor-bits c = search needs
 
 shared-slice-read-xor-bits : tie.Need-shared-slice-read-xor-bits
-shared-slice-read-xor-bits c = not-operand (c .before .before .before .before .before .before .pre) (c .before .before .node2 .given .1) .there
+shared-slice-read-xor-bits c = not-operand _ _ (c .before .before .before .before .before .before .pre .0) (c .before .before .node2 .given .1)
 
 xor-bits-requires : tie.Need-xor-bits-requires
-xor-bits-requires c κs = (omega arith, not-operand (c .before .before .before .before .before .before .pre) (c .before .before .node2 .given .1) .is-bit)
+xor-bits-requires c κs = (omega arith, c .before .before .before .before .before .before .pre .1 .0 _ (not-operand _ _ (c .before .before .before .before .before .before .pre .0) (c .before .before .node2 .given .1)))
 
 enum-known-node-3 : tie.Need-enum-known-node-3
 enum-known-node-3 c = search needs
@@ -41,21 +41,22 @@ cast-xor-bits-2 c = search needs
 
 shared-slice-read-xor-bits-2 : tie.Need-shared-slice-read-xor-bits-2
 shared-slice-read-xor-bits-2 c =
-    let o = xor-operands (c .before .before .before .before .before .before .pre) (c .before .before .node3 .given .1) in
-    omega (arith, o .0 .there, o .1 .there)
+    let o = xor-operands _ _ (c .before .before .before .before .before .before .pre .0) (c .before .before .node3 .given .1) in
+    omega (arith, o .0, o .1)
 
 cast-xor-bits-3 : tie.Need-cast-xor-bits-3
 cast-xor-bits-3 c = search needs
 
 shared-slice-read-xor-bits-3 : tie.Need-shared-slice-read-xor-bits-3
 shared-slice-read-xor-bits-3 c =
-    let o = xor-operands (c .before .before .before .before .before .before .before .pre) (c .before .before .before .node3 .given .1) in
-    omega (arith, o .0 .there, o .1 .there)
+    let o = xor-operands _ _ (c .before .before .before .before .before .before .before .pre .0) (c .before .before .before .node3 .given .1) in
+    omega (arith, o .0, o .1)
 
 xor-bits-requires-2 : tie.Need-xor-bits-requires-2
 xor-bits-requires-2 c κs =
-    let o = xor-operands (c .before .before .before .before .before .before .before .pre) (c .before .before .before .node3 .given .1) in
-    (omega (arith, o .0 .is-bit, o .1 .is-bit), omega (arith, o .0 .is-bit, o .1 .is-bit))
+    let o = xor-operands _ _ (c .before .before .before .before .before .before .before .pre .0) (c .before .before .before .node3 .given .1) in
+    let bits = c .before .before .before .before .before .before .before .pre .1 .0 in
+    (omega (arith, bits _ (o .0), bits _ (o .1)), omega (arith, bits _ (o .0), bits _ (o .1)))
 
 enum-known-node-4 : tie.Need-enum-known-node-4
 enum-known-node-4 c = search needs
@@ -65,21 +66,22 @@ cast-and-bits c = search needs
 
 shared-slice-read-and-bits : tie.Need-shared-slice-read-and-bits
 shared-slice-read-and-bits c =
-    let o = and-operands (c .before .before .before .before .before .before .pre) (c .before .before .node4 .given .1) in
-    omega (arith, o .0 .there, o .1 .there)
+    let o = and-operands _ _ (c .before .before .before .before .before .before .pre .0) (c .before .before .node4 .given .1) in
+    omega (arith, o .0, o .1)
 
 cast-and-bits-2 : tie.Need-cast-and-bits-2
 cast-and-bits-2 c = search needs
 
 shared-slice-read-and-bits-2 : tie.Need-shared-slice-read-and-bits-2
 shared-slice-read-and-bits-2 c =
-    let o = and-operands (c .before .before .before .before .before .before .before .pre) (c .before .before .before .node4 .given .1) in
-    omega (arith, o .0 .there, o .1 .there)
+    let o = and-operands _ _ (c .before .before .before .before .before .before .before .pre .0) (c .before .before .before .node4 .given .1) in
+    omega (arith, o .0, o .1)
 
 and-bits-requires : tie.Need-and-bits-requires
 and-bits-requires c κs =
-    let o = and-operands (c .before .before .before .before .before .before .before .pre) (c .before .before .before .node4 .given .1) in
-    (omega (arith, o .0 .is-bit, o .1 .is-bit), omega (arith, o .0 .is-bit, o .1 .is-bit))
+    let o = and-operands _ _ (c .before .before .before .before .before .before .before .pre .0) (c .before .before .before .node4 .given .1) in
+    let bits = c .before .before .before .before .before .before .before .pre .1 .0 in
+    (omega (arith, bits _ (o .0), bits _ (o .1)), omega (arith, bits _ (o .0), bits _ (o .1)))
 
 returns : tie.Need-returns
 unfolding nodeValue

@@ -8,6 +8,7 @@ use lib.Dec.{eqb, leb}
 use borrow.Author.Tests.{eq-eqb, ne-eqb, le-leb, lt-leb}
 use Rattle.wire.specs.Bytes.{at16}
 use Rattle.wire.specs.Contents.{entryLength}
+use Rattle.wire.proofs.ContentsLaws.{body-there}
 use Rattle.program.specs.Reading.{nodesOf, lengthsFit}
 use Rattle.program.proofs.ReadingLaws.{head-long}
 use borrow.Author.Needs.{needs}
@@ -69,7 +70,7 @@ returns-4 c =
     simp (four (c .before .before .before .before), sixes (c .before .before), some (c .before), lt-leb (nodesOf f) 4096 (omega (arith, c .before .before .before .entry-length2 .ensures, c .if4 .taken)))
 
 body-requires : tie.Need-body-requires
-body-requires c κs = search needs
+body-requires c κs = body-there (c .before .before .before .before .before .before .before .pre) 0 (omega arith)
 
 get16-requires : tie.Need-get16-requires
 get16-requires c κs = omega (arith, ap length (c .body .ensures), head-long _ (c .before .before .before .before .before .before .before .before .pre), c .before .before .before .before .before .before .entry-length .ensures, c .before .before .before .before .before .if1 .left)

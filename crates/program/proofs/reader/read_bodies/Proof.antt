@@ -1,16 +1,19 @@
 use Prim.Native.Nat.{ℕ, _/_}
 use native.Mathlib.Omega.{arith}
 use mathlib.Core.Path.{_≡_, sym, ap, _∙_}
+use mathlib.Core.Bool.{true}
 use mathlib.Core.List.{List}
 use lib.ListN.{length}
 use borrow.Author.Tests.{eq-eqb, ne-eqb}
 use Rattle.wire.specs.Answers.{refused}
 use Rattle.wire.specs.Bytes.{at16}
 use Rattle.wire.specs.Checks.{lowest}
-use Rattle.wire.specs.Contents.{bodyOf}
+use Rattle.wire.specs.Contents.{bodyOf, Laid}
 use Rattle.program.specs.Nodes.{nodeFits}
-use Rattle.program.specs.Reading.{inputsOf, outputsOf, nodesOf, outputFits, programOf, readBodies}
-use Rattle.program.proofs.ReadingLaws.{head-long, nodes-lowest, outputs-lowest, head-of}
+use Rattle.wire.proofs.ContentsLaws.{body-there}
+use Rattle.wire.specs.Counts.{inputsOf, outputsOf}
+use Rattle.program.specs.Reading.{nodesOf, lengthsFit, outputFits, programOf, readBodies}
+use Rattle.program.proofs.ReadingLaws.{Sized, sized, head-long, nodes-lowest, outputs-lowest, head-of}
 use borrow.Author.Needs.{needs}
 use Rattle.program.proofs.reader.read_bodies.Statement.{statement}
 use Rattle.program.proofs.reader.read_bodies.Tie as tie
@@ -42,6 +45,10 @@ claims = (
   read-outputs-reads.Learnt,
 )
 
+-- the bodies' lengths, by the test that held
+order : {f : List ℕ} → Laid 3 f × (lengthsFit f ≡ true) → Sized f
+order {f} p = sized f (p .0) (p .1)
+
 -- what was read, in the definitions' terms
 inputs : (c : lts.After-get16 claims reads.Pre reads.Post) → c .get16 .result ≡ inputsOf (c .before .before .before .args .file .now)
 inputs c = c .get16 .ensures ∙ ap (λ (l : List ℕ). at16 l 0) (c .before .body .ensures)
@@ -53,22 +60,22 @@ nodes : (c : lts.After-entry-length claims reads.Pre reads.Post) → c .entry-le
 nodes c = ap (λ (l : ℕ). l / 6) (c .entry-length .ensures)
 
 node : (c : lts.After-read-nodes claims reads.Pre reads.Post) → c .read-nodes .result ≡ lowest (nodeFits (inputsOf (c .before .before .before .before .before .before .before .args .file .now)) (bodyOf (c .before .before .before .before .before .before .before .args .file .now) 1)) (nodesOf (c .before .before .before .before .before .before .before .args .file .now))
-node c = c .read-nodes .ensures ∙ nodes-lowest (c .before .before .before .before .before .before .before .args .file .now) (c .before .before .before .before .before .before .before .pre) (inputs (c .before .before .before .before)) (c .before .node-body .ensures)
+node c = c .read-nodes .ensures ∙ nodes-lowest (c .before .before .before .before .before .before .before .args .file .now) (order (c .before .before .before .before .before .before .before .pre)) (inputs (c .before .before .before .before)) (c .before .node-body .ensures)
 
 output : (c : lts.After-read-outputs claims reads.Pre reads.Post) → c .read-outputs .result ≡ lowest (outputFits (nodesOf (c .before .before .before .before .before .before .before .before .before .before .args .file .now)) (bodyOf (c .before .before .before .before .before .before .before .before .before .before .args .file .now) 2)) (outputsOf (c .before .before .before .before .before .before .before .before .before .before .args .file .now))
-output c = c .read-outputs .ensures ∙ outputs-lowest (c .before .before .before .before .before .before .before .before .before .before .args .file .now) (c .before .before .before .before .before .before .before .before .before .before .pre) (nodes (c .before .before .before .before .before)) (c .before .output-body .ensures)
+output c = c .read-outputs .ensures ∙ outputs-lowest (c .before .before .before .before .before .before .before .before .before .before .args .file .now) (order (c .before .before .before .before .before .before .before .before .before .before .pre)) (nodes (c .before .before .before .before .before)) (c .before .output-body .ensures)
 
 body-requires : tie.Need-body-requires
-body-requires c κs = search needs
+body-requires c κs = body-there (c .before .pre .0) 0 (omega arith)
 
 get16-requires : tie.Need-get16-requires
-get16-requires c κs = omega (arith, ap length (c .body .ensures), head-long _ (c .before .before .pre .laid), c .before .before .pre .four)
+get16-requires c κs = omega (arith, ap length (c .body .ensures), head-long _ (c .before .before .pre .0), order (c .before .before .pre) .four)
 
 cast-inputs : tie.Need-cast-inputs
 cast-inputs c = search needs
 
 get16-requires-2 : tie.Need-get16-requires-2
-get16-requires-2 c κs = omega (arith, ap length (c .before .body .ensures), head-long _ (c .before .before .before .pre .laid), c .before .before .before .pre .four)
+get16-requires-2 c κs = omega (arith, ap length (c .before .body .ensures), head-long _ (c .before .before .before .pre .0), order (c .before .before .before .pre) .four)
 
 cast-outputs : tie.Need-cast-outputs
 cast-outputs c = search needs

@@ -1,11 +1,11 @@
 use mathlib.Core.Path.{_≡_, sym, _∙_}
 use mathlib.Core.Bool.{true}
 use borrow.Author.Tests.{not-true, not-false}
-use Rattle.wire.specs.Contents.{tableFits, entriesFit}
-use Rattle.wire.proofs.ContentsLaws.{table-whole}
-use Rattle.program.specs.Layout.{Laid, Sized}
-use Rattle.program.specs.Reading.{tags, lengthsFit, rangesFit, readProgram}
-use Rattle.program.proofs.ReadingLaws.{laid, sized}
+use Rattle.wire.specs.Contents.{tableFits, entriesFit, bodyOf, Laid}
+use Rattle.wire.specs.Counts.{countsFit}
+use Rattle.wire.proofs.ContentsLaws.{table-whole, laid}
+use Rattle.program.specs.Reading.{tags, lengthsFit, readProgram}
+use Rattle.program.proofs.ReadingLaws.{sized}
 use borrow.Author.Needs.{needs}
 use Rattle.program.proofs.reader.read_program.Statement.{statement}
 use Rattle.program.proofs.reader.read_program.Tie as tie
@@ -41,15 +41,12 @@ entries c = sym (c .before .entries-fit .ensures) ∙ not-false _ (c .if2 .left)
 lengths : (c : lts.Else3 claims reads.Pre reads.Post) → lengthsFit (c .before .before .before .before .before .before .before .before .args .file .now) ≡ true
 lengths c = sym (c .before .lengths-fit .ensures) ∙ not-false _ (c .if3 .left)
 
-ranges : (c : lts.Else4 claims reads.Pre reads.Post) → rangesFit (c .before .before .before .before .before .before .before .before .before .before .args .file .now) ≡ true
+ranges : (c : lts.Else4 claims reads.Pre reads.Post) → countsFit (bodyOf (c .before .before .before .before .before .before .before .before .before .before .args .file .now) 0) ≡ true
 ranges c = sym (c .before .ranges-fit .ensures) ∙ not-false _ (c .if4 .left)
 
 -- and what they say of the file
-laid-at : (c : lts.Else2 claims reads.Pre reads.Post) → Laid (c .before .before .before .before .before .before .args .file .now)
-laid-at c = laid (c .before .before .before .before .before .before .args .file .now) (table (c .before .before .before)) (entries c)
-
-sized-at : (c : lts.Else3 claims reads.Pre reads.Post) → Sized (c .before .before .before .before .before .before .before .before .args .file .now)
-sized-at c = sized (c .before .before .before .before .before .before .before .before .args .file .now) (laid-at (c .before .before)) (lengths c)
+laid-at : (c : lts.Else2 claims reads.Pre reads.Post) → Laid 3 (c .before .before .before .before .before .before .args .file .now)
+laid-at c = laid tags (c .before .before .before .before .before .before .args .file .now) (table (c .before .before .before)) (entries c)
 
 table-fits-requires : tie.Need-table-fits-requires
 table-fits-requires c κs = search needs
@@ -76,14 +73,14 @@ unfolding readProgram
 returns-3 c = simp (table (c .before .before .before .before .before), entries (c .before .before), sym (c .before .lengths-fit .ensures) ∙ not-true _ (c .if3 .taken))
 
 ranges-fit-requires : tie.Need-ranges-fit-requires
-ranges-fit-requires c κs = sized-at c
+ranges-fit-requires c κs = (laid-at (c .before .before), sized _ (laid-at (c .before .before)) (lengths c) .four)
 
 returns-4 : tie.Need-returns-4
 unfolding readProgram
 returns-4 c = simp (table (c .before .before .before .before .before .before .before), entries (c .before .before .before .before), lengths (c .before .before), sym (c .before .ranges-fit .ensures) ∙ not-true _ (c .if4 .taken))
 
 read-bodies-requires : tie.Need-read-bodies-requires
-read-bodies-requires c κs = sized-at (c .before .before)
+read-bodies-requires c κs = (laid-at (c .before .before .before .before), lengths (c .before .before))
 
 returns-5 : tie.Need-returns-5
 unfolding readProgram
