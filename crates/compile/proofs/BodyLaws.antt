@@ -85,8 +85,7 @@ module _ (f : List ℕ) (a : Accepted f) where
       → programCircuit (programOf f) .work ≤ 1024 → fileLength (length (programCircuit (programOf f) .gates)) ≤ length area → InRange h × Writable (bodyOf f 1) (bodyOf f 2) (h .inputs) area
   unfolding programCircuit
   fitting h area n some most w g lines room =
-      let length-is : length (circuit (programOf f .inputs) (outputTrees (programOf f))) ≡ sharesCount (outputTrees (programOf f)) = circuit-length (programOf f .inputs) (outputTrees (programOf f)) in
-      (
+      let length-is : length (circuit (programOf f .inputs) (outputTrees (programOf f))) ≡ sharesCount (outputTrees (programOf f)) = circuit-length (programOf f .inputs) (outputTrees (programOf f)) in (
         record { inputs-most = omega (arith, a .inputs-most); outputs-some = some; outputs-most = most; work-most = w; gates-most = g },
         record {
           ordered = rw n nodes-ordered;

@@ -82,11 +82,13 @@ module _ (f : List ℕ) (grant : ℕ) (sizes area : List ℕ) where
 -- the nodes of a program that was read have sizes, and the list then holds them
 module _ {f : List ℕ} {h : Head} (r : Read f h) where
   pub sizeable : {entries : ℕ} → h .nodes ≤ entries → (n : ℕ) × Fillable n (bodyOf f 1) entries
-  sizeable s =
-      (inputsOf f, record {
-        ordered = nodes-ordered f (r .accepts);
-        fits = omega (arith, nodes-counted f (r .accepts .sized), nodes-length f (r .accepts), ap (λ (t : Head). t .nodes) (r .head));
-      })
+  sizeable s = (
+    inputsOf f,
+    record {
+      ordered = nodes-ordered f (r .accepts);
+      fits = omega (arith, nodes-counted f (r .accepts .sized), nodes-length f (r .accepts), ap (λ (t : Head). t .nodes) (r .head));
+    },
+  )
 
   pub listed : (old : List ℕ) {new : List ℕ} → new ≡ nodeSizes (nodesIn (bodyOf f 1)) ++ drop (length (bodyOf f 1) / 6) old → Listed f h new
   listed old e = record { reads = r .accepts .is; numbers = r .head; later = drop (length (bodyOf f 1) / 6) old; listed = e ∙ ap (λ (ns : List Node). nodeSizes ns ++ drop (length (bodyOf f 1) / 6) old) (same-nodes f (r .accepts)) }

@@ -16,7 +16,7 @@ use Rattle.program.specs.declared.node.Node.{Node}
 use Rattle.program.specs.declared.reader.Head.{Head}
 use Rattle.program.specs.Exprs.{ZERO, value}
 use Rattle.program.specs.Nodes.{nodesIn}
-use Rattle.program.specs.Programs.{outputTree, outputValue, nodeValues}
+use Rattle.program.specs.Programs.{Program, outputTree, outputValue, nodeValues}
 use Rattle.wire.specs.Counts.{inputsOf, outputsOf}
 use Rattle.program.specs.Reading.{nodesOf, outputAt, programOf, readProgram}
 use Rattle.program.specs.Trees.{trees, Fillable}
@@ -37,9 +37,9 @@ module _ (f list x : List ℕ) (k : ℕ) where
   refuses n p e = record { answer = rw e refl; values = rw e refl }
 
   -- a result fills it
-  pub finds : (b : ℕ) (vs : List ℕ) → evaluateFile f (length list) x k ≡ result (record { bit = b; values = vs }) → Outcome (result b) (vs ++ drop (length vs) list)
+  pub finds : (p : Program) → evaluateFile f (length list) x k ≡ result p → Outcome (result (outputValue p x k)) (nodeValues (p .nodes) x ++ drop (length (p .nodes)) list)
   unfolding evaluateOf
-  finds b vs e = record { answer = rw e refl; values = rw e refl }
+  finds p e = record { answer = rw e refl; values = rw e refl }
 
   -- the reader's refusal is passed on
   pub reader-refuses : (n p : ℕ) → readProgram f ≡ refused n p → Outcome (refused n p) list
@@ -113,22 +113,23 @@ module _ (f list x : List ℕ) (k : ℕ) where
           values-at (programOf f .nodes) x (outputAt (bodyOf f 2) k)
           ∙ ap (λ (i : ℕ). value (getD (trees (programOf f .nodes)) i ZERO) x) (sym (output-is f (r .accepts) k within))
 
-      found : evaluateFile f (length list) x k ≡ result (record { bit = outputValue (programOf f) x k; values = nodeValues (programOf f .nodes) x })
+      found : evaluateFile f (length list) x k ≡ result (programOf f)
       unfolding evaluateFile
       found = simp (r .accepts .is, fits (q .room), same-test ∙ q .bits, lt-ltb k (length (programOf f .outputs)) (omega (arith, head-outputs, q .output)))
 
       -- the answer is the output's value
       pub output-answered : evaluateOf f list x k .answer ≡ result (outputValue (programOf f) x k)
-      output-answered = sym (finds (outputValue (programOf f) x k) (nodeValues (programOf f .nodes) x) found .answer)
+      output-answered = sym (finds (programOf f) found .answer)
 
       pub output-found : (l : List ℕ) → l ≡ nodeValues (nodesIn (bodyOf f 1)) x ++ drop (length (bodyOf f 1) / 6) list → Outcome (result (getD l (outputAt (bodyOf f 2) k) 0)) l
       output-found l w =
           let all : List ℕ = nodeValues (programOf f .nodes) x in
-          let o = finds (outputValue (programOf f) x k) all found in
-          let is : l ≡ all ++ drop (length all) list =
-          w ∙ ap₂ (λ (ns : List Node) (n : ℕ). nodeValues ns x ++ drop n list) (same-nodes f (r .accepts)) (nodes-counted f (r .accepts .sized) ∙ sym all-counted) in
+          let o = finds (programOf f) found in
+          let rest : List ℕ = drop (length (programOf f .nodes)) list in
+          let is : l ≡ all ++ rest =
+          w ∙ ap₂ (λ (ns : List Node) (n : ℕ). nodeValues ns x ++ drop n list) (same-nodes f (r .accepts)) (nodes-counted f (r .accepts .sized) ∙ sym (nodes-length f (r .accepts))) in
           let bit-is : getD l (outputAt (bodyOf f 2) k) 0 ≡ outputValue (programOf f) x k =
           ap (λ (v : List ℕ). getD v (outputAt (bodyOf f 2) k) 0) is
-          ∙ List·getD-append all (drop (length all) list) 0 (outputAt (bodyOf f 2) k) (omega (arith, all-counted, r .accepts .outputs-fit k within))
+          ∙ List·getD-append all rest 0 (outputAt (bodyOf f 2) k) (omega (arith, all-counted, r .accepts .outputs-fit k within))
           ∙ output-value in
           record { answer = ap result bit-is ∙ o .answer; values = is ∙ o .values }

@@ -6,29 +6,24 @@ use lib.Dec.{leb, ltb}
 use Rattle.wire.specs.Answers.{Answer, result, refused, refuse, check, andThen, mapAnswer}
 use Rattle.wire.specs.Bits.{bitsFit}
 use Rattle.wire.specs.declared.refusals.Refusal.the-variants as cause
-use Rattle.program.specs.Programs.{outputValue, nodeValues}
+use Rattle.program.specs.Programs.{Program, outputValue, nodeValues}
 use Rattle.program.specs.Reading.{readProgram}
 use Rattle.evaluate.specs.declared.Evaluated.{Evaluated}
 use Rattle.evaluate.specs.declared.Evaluated.the-variants.{Value, Refused}
 
--- what is found on a result: the output's value, and every node's
-pub record Found : Type 0 where
-  pub bit : ℕ
-  pub values : List ℕ
-
--- evaluating an output of a program file, with room for so many values
-unfoldable pub evaluateFile : List ℕ → ℕ → List ℕ → ℕ → Answer Found
+-- the program of a file whose output can be evaluated on these input bytes, with room for so many values
+unfoldable pub evaluateFile : List ℕ → ℕ → List ℕ → ℕ → Answer Program
 evaluateFile file room inputs output =
     andThen (readProgram file) (λ p.
     check (leb (length (p .nodes)) room) cause.ListLength  -- 7
     (check (bitsFit (p .inputs) inputs) cause.InputBytes  -- 14
     (check (ltb output (length (p .outputs))) cause.OutputNumber  -- 15
-    (result (record { bit = outputValue p inputs output; values = nodeValues (p .nodes) inputs })))))
+    (result p))))
 
 -- the value list at exit: on a result the nodes' values, later entries as they were; on a refusal as it was
-abbrev pub filled : Answer Found → List ℕ → List ℕ
-filled (result found) list = found .values ++ drop (length (found .values)) list
-filled (refused n p) list = list
+abbrev pub valuesAfter : Answer Program → List ℕ → List ℕ → List ℕ
+valuesAfter (result p) inputs list = nodeValues (p .nodes) inputs ++ drop (length (p .nodes)) list
+valuesAfter (refused n q) inputs list = list
 
 -- what the service answers, and what it leaves in the lent value list
 pub record Evaluating : Type 0 where
@@ -39,8 +34,8 @@ pub record Evaluating : Type 0 where
 unfoldable pub evaluateOf : List ℕ → List ℕ → List ℕ → ℕ → Evaluating
 evaluateOf file list inputs output =
     record {
-      answer = mapAnswer (λ found. found .bit) (evaluateFile file (length list) inputs output);
-      values = filled (evaluateFile file (length list) inputs output) list;
+      answer = mapAnswer (λ p. outputValue p inputs output) (evaluateFile file (length list) inputs output);
+      values = valuesAfter (evaluateFile file (length list) inputs output) inputs list;
     }
 
 -- the service's answer in 01's terms: the output's value, or a number and a place
