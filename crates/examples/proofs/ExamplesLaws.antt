@@ -1,0 +1,49 @@
+-- The starred examples of 01 hold. Assumes nothing.
+use Prim.Native.Nat.{ℕ}
+use native.Mathlib.Omega.{arith}
+use mathlib.Core.Path.{refl, ap}
+use mathlib.Core.List.{List, [], _∷_, flatMap}
+use borrow.Author.Tests.{leb-true}
+use Rattle.wire.specs.Bits.{xorBit, bitsFit}
+use Rattle.wire.specs.Checks.{lowestFrom}
+use Rattle.wire.specs.Contents.{tableFits, entriesFrom, entriesFit, entriesBytes, contentsBytes}
+use Rattle.wire.specs.Lists.{tabulateFrom}
+use Rattle.gate.specs.Gates.{target, wellFormed}
+use Rattle.gate.specs.GateBytes.{gateBytes, gatesBytes, gateAt, gateFits, fieldsFit}
+use Rattle.gate.specs.Running.{addend, step, run, without, undo}
+use Rattle.circuit.specs.Format.{openingBytes, circuitFile}
+use Rattle.circuit.specs.Reading as circuit
+use Rattle.run.specs.RunCircuit.{runForwards}
+use Rattle.program.specs.Exprs.{size}
+use Rattle.program.specs.Nodes.{operandsFit, nodeAt, nodeFits}
+use Rattle.program.specs.Programs.{outputTree}
+use Rattle.program.specs.Reading.{lengthsFit, rangesFit, outputFits, programOf, readBodies, readProgram}
+use Rattle.program.specs.Trees.{treeOf, treesFrom, trees}
+use Rattle.construction.specs.Construction.{held, most, second, build, share, shares, linesNeeded}
+use Rattle.construction.specs.Construction as construction
+use Rattle.construction.specs.Counting.{gatesShown}
+use Rattle.sizing.specs.Sizing.{shown, nodeSizes}
+use Rattle.compile.specs.Compiling.{outputTrees, programCircuit}
+use Rattle.text.specs.Lines.{places, decimal, field, line, gateLine, headLine, listing}
+use Rattle.examples.specs.Examples.{wholeFile, norFile, threeFile, xorFile, Examples}
+use Rattle.examples.proofs.RowLaws.{Known, lines-refused, area-refused, written, row}
+
+pub examples : Examples
+unfolding readProgram readBodies tableFits entriesFit entriesFrom lengthsFit rangesFit nodeFits operandsFit outputFits programOf nodeAt lowestFrom size nodeSizes shown programCircuit outputTrees outputTree tabulateFrom trees treesFrom treeOf construction.circuit shares share build held most second linesNeeded gatesShown undo without target circuitFile openingBytes contentsBytes entriesBytes gatesBytes gateBytes runForwards circuit.readWithLines circuit.readCircuit circuit.readHead circuit.headIn circuit.circuitOf circuit.lengthsFit circuit.rangesFit gateFits fieldsFit wellFormed gateAt bitsFit run step addend xorBit listing headLine gateLine line field decimal places flatMap
+examples =
+    let whole : Known wholeFile = record { reads = refl; small = refl; few = omega arith } in
+    let nor : Known norFile = record { reads = refl; small = refl; few = omega arith } in
+    let three : Known threeFile = record { reads = refl; small = refl; few = omega arith } in
+    let xor : Known xorFile = record { reads = refl; small = refl; few = omega arith } in
+    record {
+      whole = row whole _ (omega arith) (omega arith) (leb-true _ 64028 refl) refl;
+      whole-bytes = refl;
+      whole-area = λ grant sizes area. area-refused whole grant sizes area 67 (omega arith);
+      whole-grant = λ sizes area. lines-refused whole 1 sizes area (omega arith) (omega arith);
+      whole-target = λ grant sizes area a b c d. ap (λ (file : List ℕ). runForwards file (1 ∷ 1 ∷ 1 ∷ 0 ∷ 0 ∷ [])) (written whole grant sizes area a b c d);
+      whole-line = λ grant sizes area a b c d. ap (λ (file : List ℕ). runForwards file (1 ∷ 1 ∷ 1 ∷ 1 ∷ 0 ∷ [])) (written whole grant sizes area a b c d);
+      nor = row nor _ (omega arith) (omega arith) (leb-true _ 64028 refl) refl;
+      three = row three _ (omega arith) (omega arith) (leb-true _ 64028 refl) refl;
+      three-grant = λ sizes area. lines-refused three 3 sizes area (omega arith) (omega arith);
+      xor-self = row xor _ (omega arith) (omega arith) (leb-true _ 64028 refl) refl;
+    }

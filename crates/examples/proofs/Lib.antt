@@ -1,0 +1,2 @@
+pub mod ExamplesLaws
+pub mod RowLaws

@@ -1,0 +1,116 @@
+-- The starred examples of 01, as one table about the definitions of reading, compiling, running and listing.
+use Prim.Native.Nat.{ℕ, _≤_}
+use Prim.Native.String.{String}
+use mathlib.Core.Path.{_≡_}
+use mathlib.Core.List.{List, [], _∷_, _++_}
+use lib.ListN.{length, drop, replicate}
+use Rattle.wire.specs.Answers.{result, refused}
+use Rattle.gate.specs.declared.gates.Gate.the-variants.{Cnot, Toffoli}
+use Rattle.gate.specs.declared.gates.Gate.the-variants as gate
+use Rattle.circuit.specs.Circuits.{Circuit, headOf}
+use Rattle.circuit.specs.Format.{circuitFile}
+use Rattle.run.specs.RunCircuit.{runForwards}
+use Rattle.program.specs.declared.node.Node.the-variants.{Input, Xor, And}
+use Rattle.program.specs.declared.node.Node.the-variants as node
+use Rattle.program.specs.Programs.{Program}
+use Rattle.program.specs.Reading.{readProgram}
+use Rattle.compile.specs.Compiling.{compileFile, compileOf}
+use Rattle.compile.specs.Demand.{fileWritten}
+use Rattle.text.specs.Lines.{ascii, listing}
+
+-- the file of the whole case, in hex as in 01: the table of contents, the numbers of inputs and outputs, the nodes, the output's node
+abbrev pub wholeFile : List ℕ
+wholeFile =
+    0x03 ∷ 0x00
+    ∷ 0x01 ∷ 0x00 ∷ 0x20 ∷ 0x00 ∷ 0x00 ∷ 0x00 ∷ 0x04 ∷ 0x00 ∷ 0x00 ∷ 0x00
+    ∷ 0x02 ∷ 0x00 ∷ 0x24 ∷ 0x00 ∷ 0x00 ∷ 0x00 ∷ 0x12 ∷ 0x00 ∷ 0x00 ∷ 0x00
+    ∷ 0x03 ∷ 0x00 ∷ 0x36 ∷ 0x00 ∷ 0x00 ∷ 0x00 ∷ 0x02 ∷ 0x00 ∷ 0x00 ∷ 0x00
+    ∷ 0x02 ∷ 0x00 ∷ 0x01 ∷ 0x00
+    ∷ 0x02 ∷ 0x00 ∷ 0x00 ∷ 0x00 ∷ 0x00 ∷ 0x00
+    ∷ 0x02 ∷ 0x00 ∷ 0x01 ∷ 0x00 ∷ 0x00 ∷ 0x00
+    ∷ 0x05 ∷ 0x00 ∷ 0x00 ∷ 0x00 ∷ 0x01 ∷ 0x00
+    ∷ 0x02 ∷ 0x00 ∷ []
+
+-- its circuit
+abbrev pub wholeCircuit : Circuit
+wholeCircuit = record { inputs = 2; outputs = 1; work = 2; gates = Cnot 0 3 ∷ Cnot 1 4 ∷ Toffoli 3 4 2 ∷ Cnot 1 4 ∷ Cnot 0 3 ∷ [] }
+
+-- the file of NOR as AND of two NOTs
+abbrev pub norFile : List ℕ
+norFile =
+    3 ∷ 0 ∷ 1 ∷ 0 ∷ 32 ∷ 0 ∷ 0 ∷ 0 ∷ 4 ∷ 0 ∷ 0 ∷ 0 ∷ 2 ∷ 0 ∷ 36 ∷ 0 ∷ 0 ∷ 0 ∷ 30 ∷ 0 ∷ 0 ∷ 0 ∷ 3 ∷ 0 ∷ 66 ∷ 0 ∷ 0 ∷ 0 ∷ 2 ∷ 0 ∷ 0 ∷ 0
+    ∷ 2 ∷ 0 ∷ 1 ∷ 0
+    ∷ 2 ∷ 0 ∷ 0 ∷ 0 ∷ 0 ∷ 0
+    ∷ 2 ∷ 0 ∷ 1 ∷ 0 ∷ 0 ∷ 0
+    ∷ 3 ∷ 0 ∷ 0 ∷ 0 ∷ 0 ∷ 0
+    ∷ 3 ∷ 0 ∷ 1 ∷ 0 ∷ 0 ∷ 0
+    ∷ 5 ∷ 0 ∷ 2 ∷ 0 ∷ 3 ∷ 0
+    ∷ 4 ∷ 0 ∷ []
+
+-- the file of AND(AND(input 0, input 1), input 2)
+abbrev pub threeFile : List ℕ
+threeFile =
+    3 ∷ 0 ∷ 1 ∷ 0 ∷ 32 ∷ 0 ∷ 0 ∷ 0 ∷ 4 ∷ 0 ∷ 0 ∷ 0 ∷ 2 ∷ 0 ∷ 36 ∷ 0 ∷ 0 ∷ 0 ∷ 30 ∷ 0 ∷ 0 ∷ 0 ∷ 3 ∷ 0 ∷ 66 ∷ 0 ∷ 0 ∷ 0 ∷ 2 ∷ 0 ∷ 0 ∷ 0
+    ∷ 3 ∷ 0 ∷ 1 ∷ 0
+    ∷ 2 ∷ 0 ∷ 0 ∷ 0 ∷ 0 ∷ 0
+    ∷ 2 ∷ 0 ∷ 1 ∷ 0 ∷ 0 ∷ 0
+    ∷ 5 ∷ 0 ∷ 0 ∷ 0 ∷ 1 ∷ 0
+    ∷ 2 ∷ 0 ∷ 2 ∷ 0 ∷ 0 ∷ 0
+    ∷ 5 ∷ 0 ∷ 2 ∷ 0 ∷ 3 ∷ 0
+    ∷ 4 ∷ 0 ∷ []
+
+-- the file of XOR of input 0 with itself
+abbrev pub xorFile : List ℕ
+xorFile =
+    3 ∷ 0 ∷ 1 ∷ 0 ∷ 32 ∷ 0 ∷ 0 ∷ 0 ∷ 4 ∷ 0 ∷ 0 ∷ 0 ∷ 2 ∷ 0 ∷ 36 ∷ 0 ∷ 0 ∷ 0 ∷ 12 ∷ 0 ∷ 0 ∷ 0 ∷ 3 ∷ 0 ∷ 48 ∷ 0 ∷ 0 ∷ 0 ∷ 2 ∷ 0 ∷ 0 ∷ 0
+    ∷ 1 ∷ 0 ∷ 1 ∷ 0
+    ∷ 2 ∷ 0 ∷ 0 ∷ 0 ∷ 0 ∷ 0
+    ∷ 4 ∷ 0 ∷ 0 ∷ 0 ∷ 0 ∷ 0
+    ∷ 1 ∷ 0 ∷ []
+
+-- a file that reads as program p, compiles to circuit c and is listed as text; s has the sizes of its nodes
+pub record Accepted (file : List ℕ) (p : Program) (s : List ℕ) (c : Circuit) (text : String) : Type 0 where
+  pub reads : readProgram file ≡ result p
+  -- for every grant from w to 1,024, every size list with an entry for each node and every area with room for the file
+  pub compiles : (grant : ℕ) (sizes area : List ℕ) → c .work ≤ grant → grant ≤ 1024 → length (p .nodes) ≤ length sizes → length (circuitFile c) ≤ length area
+      → compileOf file grant sizes area ≡ record { answer = result (headOf c); sizes = s ++ drop (length (p .nodes)) sizes; area = circuitFile c ++ drop (length (circuitFile c)) area }
+  pub prints : listing (compileFile file 1024 4096 64028) ≡ ascii text
+
+-- the file that compiling the whole case writes, run forwards on start, gives after
+abbrev pub WholeRun : List ℕ → List ℕ → Type 0
+WholeRun start after =
+    (grant : ℕ) (sizes area : List ℕ) → 2 ≤ grant → grant ≤ 1024 → 3 ≤ length sizes → 68 ≤ length area
+    → runForwards (fileWritten (headOf wholeCircuit) (compileOf wholeFile grant sizes area .area)) start ≡ result after
+
+-- the starred examples: a row for each, which holds whatever the size list and the area held before
+pub record Examples : Type 0 where
+  -- the whole case
+  pub whole : Accepted wholeFile (record { inputs = 2; nodes = Input 0 ∷ Input 1 ∷ And 0 1 ∷ []; outputs = 2 ∷ [] }) (1 ∷ 1 ∷ 3 ∷ []) wholeCircuit
+      "lines 2 1 2 gates 5\nC 0 3\nC 1 4\nT 3 4 2\nC 1 4\nC 0 3\n"
+  -- its circuit file has 68 bytes
+  pub whole-bytes : length (circuitFile wholeCircuit) ≡ 68
+  -- an area of 67 gives 11, place 5, and is all zero
+  pub whole-area : (grant : ℕ) (sizes area : List ℕ) → 2 ≤ grant → grant ≤ 1024 → 3 ≤ length sizes → length area ≡ 67
+      → compileOf wholeFile grant sizes area ≡ record { answer = refused 11 5; sizes = 1 ∷ 1 ∷ 3 ∷ drop 3 sizes; area = replicate 67 0 }
+  -- a grant of 1 gives 10, place 2
+  pub whole-grant : (sizes area : List ℕ) → 3 ≤ length sizes
+      → compileOf wholeFile 1 sizes area ≡ record { answer = refused 10 2; sizes = 1 ∷ 1 ∷ 3 ∷ drop 3 sizes; area = area }
+  -- inputs 1 1, target 1: the target ends 0
+  pub whole-target : WholeRun (1 ∷ 1 ∷ 1 ∷ 0 ∷ 0 ∷ []) (1 ∷ 1 ∷ 0 ∷ 0 ∷ 0 ∷ [])
+  -- with line 3 starting at 1, the target stays 1 and line 3 ends 1
+  pub whole-line : WholeRun (1 ∷ 1 ∷ 1 ∷ 1 ∷ 0 ∷ []) (1 ∷ 1 ∷ 1 ∷ 1 ∷ 0 ∷ [])
+  -- NOR as AND of two NOTs: 9 gates, w 2
+  pub nor : Accepted norFile (record { inputs = 2; nodes = Input 0 ∷ Input 1 ∷ node.Not 0 ∷ node.Not 1 ∷ And 2 3 ∷ []; outputs = 4 ∷ [] }) (1 ∷ 1 ∷ 2 ∷ 2 ∷ 5 ∷ [])
+      (record { inputs = 2; outputs = 1; work = 2; gates = gate.Not 3 ∷ Cnot 0 3 ∷ gate.Not 4 ∷ Cnot 1 4 ∷ Toffoli 3 4 2 ∷ Cnot 1 4 ∷ gate.Not 4 ∷ Cnot 0 3 ∷ gate.Not 3 ∷ [] })
+      "lines 2 1 2 gates 9\nN 3\nC 0 3\nN 4\nC 1 4\nT 3 4 2\nC 1 4\nN 4\nC 0 3\nN 3\n"
+  -- AND(AND(input 0, input 1), input 2): w 4
+  pub three : Accepted threeFile (record { inputs = 3; nodes = Input 0 ∷ Input 1 ∷ And 0 1 ∷ Input 2 ∷ And 2 3 ∷ []; outputs = 4 ∷ [] }) (1 ∷ 1 ∷ 3 ∷ 1 ∷ 5 ∷ [])
+      (record { inputs = 3; outputs = 1; work = 4; gates = Cnot 0 5 ∷ Cnot 1 6 ∷ Toffoli 5 6 4 ∷ Cnot 2 7 ∷ Toffoli 4 7 3 ∷ Cnot 2 7 ∷ Toffoli 5 6 4 ∷ Cnot 1 6 ∷ Cnot 0 5 ∷ [] })
+      "lines 3 1 4 gates 9\nC 0 5\nC 1 6\nT 5 6 4\nC 2 7\nT 4 7 3\nC 2 7\nT 5 6 4\nC 1 6\nC 0 5\n"
+  -- a grant of 3 gives 10, place 4
+  pub three-grant : (sizes area : List ℕ) → 5 ≤ length sizes
+      → compileOf threeFile 3 sizes area ≡ record { answer = refused 10 4; sizes = 1 ∷ 1 ∷ 3 ∷ 1 ∷ 5 ∷ drop 5 sizes; area = area }
+  -- XOR of input 0 with itself: C 0 1 twice
+  pub xor-self : Accepted xorFile (record { inputs = 1; nodes = Input 0 ∷ Xor 0 0 ∷ []; outputs = 1 ∷ [] }) (1 ∷ 3 ∷ [])
+      (record { inputs = 1; outputs = 1; work = 0; gates = Cnot 0 1 ∷ Cnot 0 1 ∷ [] })
+      "lines 1 1 0 gates 2\nC 0 1\nC 0 1\n"
