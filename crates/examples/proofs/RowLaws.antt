@@ -9,7 +9,7 @@ use borrow.Author.Tests.{le-leb}
 use Rattle.wire.specs.Answers.{Answer, result, refused, refuse, mapAnswer}
 use Rattle.wire.specs.Checks.{lowest}
 use Rattle.wire.specs.declared.refusals.Refusal.the-variants as cause
-use Rattle.circuit.specs.Circuits.{Circuit, gateCount, headOf}
+use Rattle.circuit.specs.Circuits.{Circuit, headOf}
 use Rattle.circuit.specs.Format.{circuitFile, areaAfter}
 use Rattle.circuit.proofs.WriterLaws.{file-length}
 use Rattle.program.specs.Programs.{Program}
@@ -29,7 +29,7 @@ use Rattle.examples.specs.Examples.{Accepted}
 pub record Known (f : List ℕ) : Type 0 where
   pub reads : readProgram f ≡ result (programOf f)
   pub small : lowest (sizeFits (programOf f)) (length (programOf f .outputs)) ≡ length (programOf f .outputs)
-  pub few : gateCount (programCircuit (programOf f)) ≤ 8000
+  pub few : length (programCircuit (programOf f) .gates) ≤ 8000
 
 module _ {f : List ℕ} (k : Known f) where
   abbrev p : Program
@@ -57,10 +57,10 @@ module _ {f : List ℕ} (k : Known f) where
 
     -- the area has n bytes, and the file more
     pub area-refused : (n : ℕ) → n < length (circuitFile c) → c .work ≤ grant → grant ≤ 1024 → length (p .nodes) ≤ length sizes → length area ≡ n
-        → compileOf f grant sizes area ≡ record { answer = refused 11 (gatesShown (gateCount c)); sizes = nodeSizes (p .nodes) ++ drop (length (p .nodes)) sizes; area = replicate n 0 }
+        → compileOf f grant sizes area ≡ record { answer = refused 11 (gatesShown (length (c .gates))); sizes = nodeSizes (p .nodes) ++ drop (length (p .nodes)) sizes; area = replicate n 0 }
     area-refused n short enough allowed listed e =
         let refuses = area-short p grant (length area) (all-small p (k .small)) allowed enough (omega (arith, file-length c)) in
-        rw (← e) (left (refuse (cause.Room (gatesShown (gateCount c)))) listed refuses)
+        rw (← e) (left (refuse (cause.Room (gatesShown (length (c .gates))))) listed refuses)
 
     -- the file is written, and what is behind it stays
     accepted : c .work ≤ grant → grant ≤ 1024 → length (p .nodes) ≤ length sizes → length (circuitFile c) ≤ length area → Left (result c)
