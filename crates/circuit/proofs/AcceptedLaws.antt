@@ -10,7 +10,8 @@ use borrow.Author.Tests.{eq-eqb, ne-eqb}
 use Rattle.wire.specs.Answers.{Answer, result, refuse, check, checkEach, mapAnswer, numberOf, placeOf}
 use Rattle.wire.specs.Bits.{Bits, bitsFit}
 use Rattle.wire.specs.Checks.{allBelow, lowest}
-use Rattle.wire.specs.Contents.{tableFits, entriesFit, bodyOf, Laid}
+use Rattle.wire.specs.Contents.{tableFits, entriesFit, bodyOf}
+use Rattle.wire.specs.Steps.{Laid}
 use Rattle.wire.specs.Lists.{tabulate}
 use Rattle.wire.specs.declared.refusals.Refusal.{Refusal}
 use Rattle.wire.specs.declared.refusals.Refusal.the-variants as cause

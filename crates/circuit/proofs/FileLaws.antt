@@ -9,7 +9,8 @@ use lib.Seq.{take-at, drop-at, take-all, drop-drop}
 use borrow.Author.Tests.{eq-eqb, le-leb}
 use Rattle.wire.specs.Answers.{result}
 use Rattle.wire.specs.Bytes.{at16, bytes16, Bytes}
-use Rattle.wire.specs.Contents.{tableLength, tableFits, entriesFit, entryStart, entryLength, bodyOf, contentsBytes, total}
+use Rattle.wire.specs.Contents.{tableLength, tableFits, entriesFit, entryStart, entryLength, bodyOf, contentsBytes}
+use Rattle.wire.specs.Steps.{total}
 use Rattle.wire.specs.Counts.{inputsOf, outputsOf, countsFit}
 use Rattle.wire.specs.Lists.{tabulateFrom, tabulate}
 use Rattle.wire.proofs.ByteLaws.{number16, bytes-take, bytes-drop, drop16}

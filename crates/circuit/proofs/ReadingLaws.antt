@@ -9,7 +9,8 @@ use lib.Dec.{eqb, leb}
 use borrow.Author.Tests.{eqb-true, leb-true}
 use Rattle.wire.specs.Answers.{Answer, result, check}
 use Rattle.wire.specs.Checks.{lowest}
-use Rattle.wire.specs.Contents.{tableLength, tableFits, entriesFit, entryStart, entryLength, bodyOf, Laid}
+use Rattle.wire.specs.Contents.{tableLength, tableFits, entriesFit, entryStart, entryLength, bodyOf}
+use Rattle.wire.specs.Steps.{Laid}
 use Rattle.wire.specs.Counts.{inputsOf, outputsOf, countsFit}
 use Rattle.wire.specs.declared.refusals.Refusal.the-variants as cause
 use Rattle.wire.proofs.AnswerLaws.{checked, checked-next, same-result}

@@ -8,7 +8,8 @@ use lib.ListN.{length, set, drop, replicate, length-append, length-replicate, ge
 use lib.Seq.{sets, length-sets, sets-eq}
 use Rattle.wire.specs.Answers.{result}
 use Rattle.wire.specs.Bytes.{bytes16}
-use Rattle.wire.specs.Contents.{tableLength, contentsBytes, total, Writable}
+use Rattle.wire.specs.Contents.{tableLength, contentsBytes}
+use Rattle.wire.specs.Steps.{total, Writable}
 use Rattle.wire.proofs.FillLaws.{Filled, filled-next, filled-all}
 use Rattle.wire.proofs.ListLaws.{sets-then}
 use Rattle.wire.proofs.WrittenLaws.{contents-length}
@@ -17,7 +18,8 @@ use Rattle.gate.specs.GateBytes.{gateBytes, gatesBytes}
 use Rattle.gate.proofs.ByteLaws.{gates-length, gates-append}
 use Rattle.circuit.specs.declared.reader.CircuitHead.{CircuitHead}
 use Rattle.circuit.specs.Circuits.{Circuit, headOf, InRange}
-use Rattle.circuit.specs.Format.{tags, headLength, firstGate, fileLength, headBytes, openingBytes, circuitFile, putGates, areaAfter}
+use Rattle.circuit.specs.Format.{tags, headLength, firstGate, fileLength, headBytes, openingBytes, circuitFile, areaAfter}
+use Rattle.circuit.specs.Steps.{putGates}
 
 -- the lengths of the two bodies
 abbrev lengths : CircuitHead → List ℕ

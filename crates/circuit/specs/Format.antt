@@ -4,12 +4,10 @@ use mathlib.Core.Bool.{cond}
 use mathlib.Core.List.{List, [], _∷_, _++_}
 use lib.ListN.{length, drop, replicate}
 use lib.Dec.{eqb}
-use lib.Seq.{sets}
 use Rattle.wire.specs.Answers.{Answer, result, refused, numberOf}
 use Rattle.wire.specs.Bytes.{bytes16}
 use Rattle.wire.specs.Contents.{tableLength, contentsBytes}
 use Rattle.wire.specs.declared.refusals.Refusal.the-variants as cause
-use Rattle.gate.specs.declared.gates.Gate.{Gate}
 use Rattle.gate.specs.GateBytes.{gatesBytes}
 use Rattle.circuit.specs.declared.reader.CircuitHead.{CircuitHead}
 use Rattle.circuit.specs.Circuits.{Circuit, headOf}
@@ -41,10 +39,6 @@ openingBytes h = contentsBytes tags (headLength ∷ 8 * h .gates ∷ []) ++ head
 -- the file of a circuit
 unfoldable pub circuitFile : Circuit → List ℕ
 circuitFile c = openingBytes (headOf c) ++ gatesBytes (c .gates)
-
--- an area with these gates stored, the first of them as gate k
-unfoldable pub putGates : List ℕ → ℕ → List Gate → List ℕ
-putGates area k gs = sets area (fileLength k) (gatesBytes gs)
 
 -- a lent circuit area at exit: the file and, behind it, what was there; all zero on cause 11; on every other refusal as it was
 abbrev pub areaAfter : Answer Circuit → List ℕ → List ℕ

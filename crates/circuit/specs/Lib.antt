@@ -1,4 +1,5 @@
 pub mod Circuits
 pub mod Format
 pub mod Reading
+pub mod Steps
 pub mod Theorems

@@ -12,7 +12,8 @@ ghost use Prim.Native.Nat.{_+_, _≤_};
 ghost use lib.ListN.{length, replicate};
 ghost use lib.Seq.{sets};
 ghost use Rattle.circuit.specs.Circuits.{InRange};
-ghost use Rattle.circuit.specs.Format.{openingBytes, putGates, fileLength};
+ghost use Rattle.circuit.specs.Format.{openingBytes, fileLength};
+ghost use Rattle.circuit.specs.Steps.{putGates};
 
 // Stores everything of a circuit file that stands before its first gate.
 pub fn write_head(area: &mut [u8], head: CircuitHead)

@@ -16,7 +16,8 @@ use Rattle.program.specs.Nodes.{nodesIn}
 use Rattle.program.specs.Programs.{outputTree}
 use Rattle.wire.specs.Counts.{inputsOf}
 use Rattle.program.specs.Reading.{outputAt, programOf}
-use Rattle.program.specs.Trees.{trees, TableOk}
+use Rattle.program.specs.Trees.{trees}
+use Rattle.program.specs.Steps.{TableOk}
 use Rattle.program.proofs.AcceptedLaws.{Accepted, same-nodes, outputs-length, output-is, table-ok}
 use Rattle.program.proofs.ReadingLaws.{nodes-counted, outputs-counted}
 use Rattle.construction.specs.Construction.{circuit, linesNeeded}

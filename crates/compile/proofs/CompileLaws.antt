@@ -8,25 +8,25 @@ use mathlib.Core.List.{List, _++_}
 use lib.ListN.{length, drop}
 use lib.Dec.{eqb}
 use borrow.Author.Tests.{le-leb, lt-leb, ne-eqb}
-use Rattle.wire.specs.Answers.{Answer, result, refused, refuse, check, andThen, mapAnswer}
-use Rattle.wire.specs.Checks.{allBelow, lowest}
-use Rattle.wire.specs.Contents.{tableFits, entriesFit, bodyOf}
+use Rattle.wire.specs.Answers.{Answer, result, refused, refuse, andThen, mapAnswer}
+use Rattle.wire.specs.Contents.{bodyOf}
 use Rattle.wire.specs.declared.refusals.Refusal.the-variants as cause
 use Rattle.circuit.specs.declared.reader.CircuitHead.{CircuitHead}
 use Rattle.circuit.specs.Circuits.{Circuit, headOf}
 use Rattle.circuit.specs.Format.{areaAfter}
 use Rattle.program.specs.declared.node.Node.{Node}
 use Rattle.program.specs.declared.reader.Head.{Head}
-use Rattle.program.specs.Nodes.{nodeFits, nodesIn}
+use Rattle.program.specs.Nodes.{nodesIn}
 use Rattle.program.specs.Programs.{Program}
 use Rattle.program.specs.Reading.{programOf, readProgram}
 use Rattle.program.proofs.AcceptedLaws.{Read, reader-room, nodes-length, same-nodes}
 use Rattle.program.proofs.ReadingLaws.{nodes-counted}
 use Rattle.sizing.specs.Sizing.{nodeSizes}
-use Rattle.program.specs.Trees.{Fillable}
+use Rattle.program.specs.Steps.{Fillable}
 use Rattle.wire.specs.Counts.{inputsOf}
 use Rattle.compile.proofs.BodyLaws.{nodes-ordered}
-use Rattle.compile.specs.Compiling.{compileProgram, readWithSizes, compileFile, sizesAfter, compileOf, Listed}
+use Rattle.compile.specs.Compiling.{compileProgram, readWithSizes, compileFile, sizesAfter, compileOf}
+use Rattle.compile.specs.Steps.{Listed}
 
 module _ (f : List ℕ) (grant : ℕ) (sizes area : List ℕ) where
   -- the answer a, the size list l and the area at exit are those of the service's definition

@@ -17,7 +17,8 @@ use Rattle.wire.specs.declared.refusals.Refusal.the-variants as cause
 use Rattle.wire.proofs.CheckLaws.{by-test, both-first, both-second, lowest-same}
 use Rattle.circuit.specs.declared.reader.CircuitHead.{CircuitHead}
 use Rattle.circuit.specs.Circuits.{Circuit, headOf, InRange}
-use Rattle.circuit.specs.Format.{fileLength, openingBytes, circuitFile, putGates, areaAfter}
+use Rattle.circuit.specs.Format.{fileLength, openingBytes, circuitFile, areaAfter}
+use Rattle.circuit.specs.Steps.{putGates}
 use Rattle.circuit.proofs.WriterLaws.{file-written}
 use Rattle.gate.specs.declared.gates.Gate.{Gate}
 use Rattle.program.specs.declared.node.Node.{Node}
@@ -36,9 +37,11 @@ use Rattle.construction.proofs.CountLaws.{shown-within, shown-over}
 use Rattle.construct.specs.declared.counter.Needs.{Needs}
 use Rattle.construct.specs.Counters.{AllCountable, Needed}
 use Rattle.construct.specs.Tables.{treesIn}
-use Rattle.compile.specs.Compiling.{programCircuit, compileProgram, Listed}
+use Rattle.compile.specs.Compiling.{programCircuit, compileProgram}
+use Rattle.compile.specs.Steps.{Listed}
 use Rattle.construct.specs.Writing.{Writable}
-use Rattle.sizing.specs.Sizing.{nodeSizes, entryFits}
+use Rattle.sizing.specs.Sizing.{nodeSizes}
+use Rattle.sizing.specs.Steps.{entryFits}
 use Rattle.compile.proofs.BodyLaws.{outputs-count, names-node, named-tree, trees-same, countable, lines-counted, gates-counted, fitting}
 use Rattle.compile.proofs.ProgramLaws.{sizeFits, AllSmall, all-small, too-large, grant-large, lines-short, gates-many, area-short, fits}
 use Rattle.sizing.proofs.SizeLaws.{sizes-length, sizes-lowest}

@@ -1,6 +1,5 @@
 -- Compiling a program file, check by check in the order of 01's table.
 use Prim.Native.Nat.{ℕ}
-use mathlib.Core.Path.{_≡_}
 use mathlib.Core.Bool.{_&&_}
 use mathlib.Core.List.{List, _++_}
 use lib.ListN.{length, drop}
@@ -13,9 +12,7 @@ use Rattle.circuit.specs.Circuits.{Circuit, headOf}
 use Rattle.circuit.specs.Format.{circuitFile, areaAfter}
 use Rattle.program.specs.Exprs.{Expr, size}
 use Rattle.program.specs.Programs.{Program, outputTree}
-use Rattle.program.specs.declared.reader.Head.{Head}
-use Rattle.program.specs.Programs as program
-use Rattle.program.specs.Reading.{programOf, readProgram}
+use Rattle.program.specs.Reading.{readProgram}
 use Rattle.construction.specs.Construction.{circuit, linesNeeded}
 use Rattle.construction.specs.Counting.{gatesShown}
 use Rattle.compile.specs.declared.Compiled.{Compiled}
@@ -80,10 +77,3 @@ compileOf file grant sizes area =
 abbrev pub compiled : Compiled → Answer CircuitHead
 compiled (Written head) = result head
 compiled (Refused why) = refuse why
-
--- a program file that was read, with its numbers and with its nodes' sizes at the front of the size list
-pub record Listed (file : List ℕ) (head : Head) (sizes : List ℕ) : Type 0 where
-  pub reads : readProgram file ≡ result (programOf file)
-  pub numbers : head ≡ program.headOf (programOf file)
-  pub later : List ℕ
-  pub listed : sizes ≡ nodeSizes (programOf file .nodes) ++ later

@@ -1,3 +1,4 @@
 pub mod Compiling
 pub mod Demand
 pub mod EndToEnd
+pub mod Steps

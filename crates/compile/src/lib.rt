@@ -22,12 +22,14 @@ ghost use lib.Dec.{leb};
 ghost use lib.Seq.{sets};
 ghost use Rattle.wire.specs.Answers.{mapAnswer};
 ghost use Rattle.circuit.specs.Circuits.{headOf, InRange};
-ghost use Rattle.circuit.specs.Format.{fileLength, openingBytes, putGates, areaAfter};
+ghost use Rattle.circuit.specs.Format.{fileLength, openingBytes, areaAfter};
+ghost use Rattle.circuit.specs.Steps.{putGates};
 ghost use Rattle.program.specs.Reading.{programOf};
 ghost use Rattle.construction.specs.Construction.{circuit};
 ghost use Rattle.construct.specs.Tables.{treesIn};
 ghost use Rattle.construct.specs.Writing.{Writable};
-ghost use Rattle.compile.specs.Compiling.{compileProgram, compileOf, compiled, Listed};
+ghost use Rattle.compile.specs.Compiling.{compileProgram, compileOf, compiled};
+ghost use Rattle.compile.specs.Steps.{Listed};
 ghost use Rattle.compile.specs.Demand.{Demand3};
 
 // What compiling answers: the numbers of the circuit written.

@@ -16,7 +16,8 @@ use Rattle.gate.specs.GateBytes.{gatesBytes}
 use Rattle.gate.proofs.ByteLaws.{gates-length}
 use Rattle.gate.proofs.GateLaws.{gate-same}
 use Rattle.gate.proofs.ReadBackLaws.{gates-back}
-use Rattle.circuit.specs.Format.{firstGate, fileLength, putGates}
+use Rattle.circuit.specs.Format.{firstGate, fileLength}
+use Rattle.circuit.specs.Steps.{putGates}
 use Rattle.circuit.proofs.WriterLaws.{put-length, put-none, put-append}
 use Rattle.construct.specs.Writing.{gateIn, gatesFrom, Stored}
 

@@ -10,7 +10,8 @@ use Rattle.program.specs.declared.node.Node.the-variants.{Zero, Not, Xor, And}
 use Rattle.program.specs.Exprs.{Expr, ZERO, NOT, XOR, AND, size}
 use Rattle.program.specs.Nodes.{nodeAt, nodesIn}
 use Rattle.program.specs.Reading.{outputAt}
-use Rattle.program.specs.Trees.{trees, treeOf, NodeOk}
+use Rattle.program.specs.Trees.{trees, treeOf}
+use Rattle.program.specs.Steps.{NodeOk}
 use Rattle.program.proofs.TreeLaws.{trees-at}
 use Rattle.construct.specs.Tables.{treeIn, treesIn, Valid}
 

@@ -14,7 +14,8 @@ use Rattle.gate.specs.Gates.{target}
 use Rattle.gate.specs.GateBytes.{gateAt}
 use Rattle.gate.specs.Running.{without, undo}
 use Rattle.gate.proofs.UndoLaws.{undo-snoc, one-out, one-kept}
-use Rattle.circuit.specs.Format.{firstGate, fileLength, putGates}
+use Rattle.circuit.specs.Format.{firstGate, fileLength}
+use Rattle.circuit.specs.Steps.{putGates}
 use Rattle.circuit.proofs.WriterLaws.{put-length, put-none, put-append}
 use Rattle.construct.specs.Writing.{gateIn, gatesFrom, Stored, Repeatable, Reversible}
 use Rattle.construct.proofs.AreaLaws.{put-before, from-last, stored-none}

@@ -9,7 +9,7 @@ use Rattle.wire.proofs.ListLaws.{drop-next}
 use Rattle.gate.specs.declared.gates.Gate.{Gate}
 use Rattle.program.specs.Exprs.{Expr, ZERO}
 use Rattle.program.specs.Reading.{outputAt}
-use Rattle.circuit.specs.Format.{putGates}
+use Rattle.circuit.specs.Steps.{putGates}
 use Rattle.circuit.proofs.WriterLaws.{put-length, put-none, put-append}
 use Rattle.construction.specs.Construction.{most, share, shares, circuit, linesNeeded}
 use Rattle.construction.proofs.CountLaws.{share-length, circuit-length}

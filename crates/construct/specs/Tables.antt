@@ -6,7 +6,8 @@ use Rattle.wire.specs.Lists.{tabulate}
 use Rattle.program.specs.Exprs.{Expr, ZERO}
 use Rattle.program.specs.Nodes.{nodesIn}
 use Rattle.program.specs.Reading.{outputAt}
-use Rattle.program.specs.Trees.{trees, TableOk}
+use Rattle.program.specs.Trees.{trees}
+use Rattle.program.specs.Steps.{TableOk}
 
 -- the tree of node i of a node body
 unfoldable pub treeIn : List ℕ → ℕ → Expr

@@ -8,11 +8,12 @@ use Rattle.wire.specs.Lists.{tabulateFrom}
 use Rattle.gate.specs.declared.gates.Gate.{Gate}
 use Rattle.gate.specs.GateBytes.{gateAt}
 use Rattle.gate.specs.Running.{without, undo}
-use Rattle.circuit.specs.Format.{firstGate, fileLength, putGates}
+use Rattle.circuit.specs.Format.{firstGate, fileLength}
+use Rattle.circuit.specs.Steps.{putGates}
 use Rattle.program.specs.Exprs.{Expr}
 use Rattle.program.specs.Nodes.{nodesIn}
 use Rattle.program.specs.Reading.{outputAt}
-use Rattle.program.specs.Trees.{TableOk}
+use Rattle.program.specs.Steps.{TableOk}
 use Rattle.construction.specs.Construction.{held, most, build, linesNeeded}
 use Rattle.construction.specs.Counting.{gateCount, shareCount, sharesCount}
 use Rattle.construct.specs.declared.builder.Progress.{Progress}

@@ -19,7 +19,8 @@ use Rattle.program.specs.Nodes.{nodesIn}
 use Rattle.program.specs.Programs.{Program, outputTree, outputValue, nodeValues}
 use Rattle.wire.specs.Counts.{inputsOf, outputsOf}
 use Rattle.program.specs.Reading.{nodesOf, outputAt, programOf, readProgram}
-use Rattle.program.specs.Trees.{trees, Fillable}
+use Rattle.program.specs.Trees.{trees}
+use Rattle.program.specs.Steps.{Fillable}
 use Rattle.program.proofs.AcceptedLaws.{Read, nodes-length, same-nodes, outputs-length, output-is, inputs-is, table-ok}
 use Rattle.program.proofs.ReadingLaws.{nodes-counted, outputs-long}
 use Rattle.program.proofs.ValueLaws.{values-length, values-at}

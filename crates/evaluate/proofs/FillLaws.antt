@@ -10,8 +10,9 @@ use Rattle.wire.proofs.FillLaws.{Filled, filled-front, filled-next, filled-all}
 use Rattle.wire.proofs.ListLaws.{tabulate-length}
 use Rattle.program.specs.declared.node.Node.{Node}
 use Rattle.program.specs.Nodes.{nodeAt, nodesIn}
-use Rattle.program.specs.Programs.{nodeValue, nodeValues}
-use Rattle.program.specs.Trees.{Fillable}
+use Rattle.program.specs.Programs.{nodeValues}
+use Rattle.program.specs.Steps.{nodeValue}
+use Rattle.program.specs.Steps.{Fillable}
 use Rattle.program.proofs.TreeLaws.{node-in, node-inside}
 use Rattle.program.proofs.ValueLaws.{values-length, values-bits, value-next}
 

@@ -8,8 +8,9 @@ ghost use mathlib.Core.List.{_++_};
 ghost use Prim.Native.Nat.{_/_};
 ghost use lib.ListN.{length, drop};
 ghost use Rattle.program.specs.Nodes.{nodesIn};
-ghost use Rattle.program.specs.Programs.{nodeValue, nodeValues};
-ghost use Rattle.program.specs.Trees.{NodeOk, Fillable};
+ghost use Rattle.program.specs.Programs.{nodeValues};
+ghost use Rattle.program.specs.Steps.{nodeValue};
+ghost use Rattle.program.specs.Steps.{NodeOk, Fillable};
 ghost use Rattle.wire.specs.Bits.{Bits};
 
 // The value of a node, where values has those of the nodes before it.

@@ -15,7 +15,8 @@ use Rattle.gate.specs.declared.gates.Gate.{Gate}
 use Rattle.gate.specs.declared.gates.GateRead.{GateRead}
 use Rattle.gate.specs.declared.gates.GateRead.the-variants.{Good, Bad}
 use Rattle.gate.specs.Gates.{target, wellFormed, WellFormed}
-use Rattle.gate.specs.GateBytes.{gateOf, fieldsFit, gateAt, gateFits, readGate, gateRead}
+use Rattle.gate.specs.GateBytes.{gateOf, fieldsFit, gateAt, gateFits}
+use Rattle.gate.specs.Steps.{readGate, gateRead}
 
 module _ (L : ℕ) (body : List ℕ) (i : ℕ) where
   module _ {r : GateRead} (e : gateRead r ≡ readGate L body i) where

@@ -4,13 +4,9 @@ use mathlib.Core.Bool.{Bool, cond, _&&_}
 use mathlib.Core.List.{List, [], _∷_, _++_}
 use lib.ListN.{getD}
 use lib.Dec.{eqb}
-use Rattle.wire.specs.Answers.{Answer, result, refuse, check}
 use Rattle.wire.specs.Bytes.{at16, bytes16}
-use Rattle.wire.specs.declared.refusals.Refusal.the-variants as cause
 use Rattle.gate.specs.declared.gates.Gate.{Gate}
 use Rattle.gate.specs.declared.gates.Gate.the-variants.{Not, Cnot, Toffoli}
-use Rattle.gate.specs.declared.gates.GateRead.{GateRead}
-use Rattle.gate.specs.declared.gates.GateRead.the-variants.{Good, Bad}
 use Rattle.gate.specs.Gates.{wellFormed}
 
 -- kind, a zero byte, control, second control, target
@@ -48,12 +44,3 @@ unfoldable pub gateFits : ℕ → List ℕ → ℕ → Bool
 gateFits L body i =
     fieldsFit (getD body (8 * i) 0) (getD body (8 * i + 1) 0) (at16 body (8 * i + 2)) (at16 body (8 * i + 4))
     && wellFormed L (gateAt body i)
-
--- what reading gate i gives: the gate, or cause 12 with its index
-unfoldable pub readGate : ℕ → List ℕ → ℕ → Answer Gate
-readGate L body i = check (gateFits L body i) (cause.Gate i) (result (gateAt body i))
-
--- the gate reader's answer in 01's terms: the gate, or a number and a place
-abbrev pub gateRead : GateRead → Answer Gate
-gateRead (Good gate) = result gate
-gateRead (Bad i) = refuse (cause.Gate i)

@@ -1,4 +1,5 @@
 pub mod GateBytes
 pub mod Gates
 pub mod Running
+pub mod Steps
 pub mod Theorems

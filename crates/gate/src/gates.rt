@@ -7,7 +7,8 @@ ghost use Prim.Native.Nat.{_+_, _*_, _≤_};
 ghost use lib.ListN.{length};
 ghost use lib.Seq.{sets};
 ghost use Rattle.gate.specs.Gates.{target, wellFormed};
-ghost use Rattle.gate.specs.GateBytes.{fieldBytes, gateBytes, gateOf, fieldsFit, gateAt, gateFits, readGate, gateRead};
+ghost use Rattle.gate.specs.GateBytes.{fieldBytes, gateBytes, gateOf, fieldsFit, gateAt, gateFits};
+ghost use Rattle.gate.specs.Steps.{readGate, gateRead};
 
 // A gate with its lines.
 pub enum Gate {

@@ -25,7 +25,8 @@ use Rattle.program.specs.declared.reader.ProgramRead.the-variants.{Good,
 use Rattle.program.specs.Nodes.{nodeAt, nodesIn, nodeFits}
 use Rattle.program.specs.Programs.{Program, headOf}
 use Rattle.program.specs.Reading.{tags, nodesOf, lengthsFit, outputAt, outputFits, programOf, readBodies, readProgram, programRead}
-use Rattle.program.specs.Trees.{trees, TableOk}
+use Rattle.program.specs.Trees.{trees}
+use Rattle.program.specs.Steps.{TableOk}
 use Rattle.program.specs.Exprs.{ZERO, InputsBelow}
 use Rattle.program.proofs.NodeLaws.{node-ok}
 use Rattle.program.proofs.ReadingLaws.{Sized, sized, nodes-counted}

@@ -16,8 +16,9 @@ use Rattle.program.specs.declared.node.Node.{Node}
 use Rattle.program.specs.declared.node.Node.the-variants.{Input, Not, Xor, And}
 use Rattle.program.specs.declared.node.NodeRead.{NodeRead}
 use Rattle.program.specs.declared.node.NodeRead.the-variants.{Good, Bad}
-use Rattle.program.specs.Nodes.{nodeOf, operandsFit, nodeAt, nodeFits, readNode, nodeRead}
-use Rattle.program.specs.Trees.{NodeOk}
+use Rattle.program.specs.Nodes.{nodeOf, operandsFit, nodeAt, nodeFits}
+use Rattle.program.specs.Steps.{readNode, nodeRead}
+use Rattle.program.specs.Steps.{NodeOk}
 
 module _ (n : ℕ) (body : List ℕ) (i : ℕ) {r : NodeRead} (e : nodeRead r ≡ readNode n body i) where
   -- a node that was read is in order

@@ -11,7 +11,8 @@ use Rattle.program.specs.declared.node.Node.{Node}
 use Rattle.program.specs.declared.node.Node.the-variants.{Zero, One, Input, Not, Xor, And}
 use Rattle.program.specs.Exprs.{Expr, ZERO, NOT, XOR, AND, InputsBelow, EachBelow}
 use Rattle.program.specs.Nodes.{nodeAt, nodesIn}
-use Rattle.program.specs.Trees.{treeOf, treesFrom, trees, NodeOk, TableOk, Fillable}
+use Rattle.program.specs.Trees.{treeOf, treesFrom, trees}
+use Rattle.program.specs.Steps.{NodeOk, TableOk, Fillable}
 
 -- a tree already made stays
 from-before : (ts : List Expr) (ns : List Node) (i : ℕ) → i < length ts → getD (treesFrom ts ns) i ZERO ≡ getD ts i ZERO

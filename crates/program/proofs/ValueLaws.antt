@@ -10,8 +10,10 @@ use Rattle.wire.proofs.BitLaws.{xor-bit, and-bit, bit-below}
 use Rattle.program.specs.declared.node.Node.{Node}
 use Rattle.program.specs.declared.node.Node.the-variants.{Zero, One, Input, Not, Xor, And}
 use Rattle.program.specs.Exprs.{Expr, ZERO, ONE, INPUT, NOT, XOR, AND, value}
-use Rattle.program.specs.Programs.{nodeValue, nodeValues}
-use Rattle.program.specs.Trees.{treeOf, trees, NodeOk, TableOk}
+use Rattle.program.specs.Programs.{nodeValues}
+use Rattle.program.specs.Steps.{nodeValue}
+use Rattle.program.specs.Trees.{treeOf, trees}
+use Rattle.program.specs.Steps.{NodeOk, TableOk}
 use Rattle.program.proofs.TreeLaws.{length-trees, trees-at}
 
 -- a value is a bit

@@ -4,14 +4,10 @@ use mathlib.Core.Bool.{Bool, false, cond, _&&_}
 use mathlib.Core.List.{List}
 use lib.ListN.{length, getD}
 use lib.Dec.{eqb, leb, ltb}
-use Rattle.wire.specs.Answers.{Answer, result, refuse, check}
 use Rattle.wire.specs.Bytes.{at16}
 use Rattle.wire.specs.Lists.{tabulate}
-use Rattle.wire.specs.declared.refusals.Refusal.the-variants as cause
 use Rattle.program.specs.declared.node.Node.{Node}
 use Rattle.program.specs.declared.node.Node.the-variants.{Zero, One, Input, Not, Xor, And}
-use Rattle.program.specs.declared.node.NodeRead.{NodeRead}
-use Rattle.program.specs.declared.node.NodeRead.the-variants.{Good, Bad}
 
 -- the node of a kind with these fields, once cause 5 has refused every kind above 5
 abbrev pub nodeOf : ℕ → ℕ → ℕ → Node
@@ -43,12 +39,3 @@ unfoldable pub nodeFits : ℕ → List ℕ → ℕ → Bool
 nodeFits n body i =
     eqb (getD body (6 * i + 1) 0) 0
     && operandsFit n i (getD body (6 * i) 0) (at16 body (6 * i + 2)) (at16 body (6 * i + 4))
-
--- what reading node i gives: the node, or cause 5 with its index
-unfoldable pub readNode : ℕ → List ℕ → ℕ → Answer Node
-readNode n body i = check (nodeFits n body i) (cause.Node i) (result (nodeAt body i))
-
--- the node reader's answer in 01's terms: the node, or a number and a place
-abbrev pub nodeRead : NodeRead → Answer Node
-nodeRead (Good node) = result node
-nodeRead (Bad i) = refuse (cause.Node i)

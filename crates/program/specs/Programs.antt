@@ -1,10 +1,8 @@
 -- A program: its inputs, its table of nodes and the node that each output names.
-use Prim.Native.Nat.{ℕ, _*_}
+use Prim.Native.Nat.{ℕ}
 use mathlib.Core.List.{List, map}
 use lib.ListN.{length, getD}
-use Rattle.wire.specs.Bits.{xorBit, bit}
 use Rattle.program.specs.declared.node.Node.{Node}
-use Rattle.program.specs.declared.node.Node.the-variants.{Zero, One, Input, Not, Xor, And}
 use Rattle.program.specs.declared.reader.Head.{Head}
 use Rattle.program.specs.Exprs.{Expr, ZERO, value}
 use Rattle.program.specs.Trees.{trees}
@@ -30,12 +28,3 @@ outputValue p x k = value (outputTree p k) x
 -- the value of every node of a table on the input bits x
 unfoldable pub nodeValues : List Node → List ℕ → List ℕ
 nodeValues ns x = map (λ e. value e x) (trees ns)
-
--- a node's value, where the values of the nodes before it are given
-unfoldable pub nodeValue : Node → List ℕ → List ℕ → ℕ
-nodeValue Zero vs x = 0
-nodeValue One vs x = 1
-nodeValue (Input j) vs x = bit x j
-nodeValue (Not a) vs x = xorBit 1 (bit vs a)
-nodeValue (Xor a b) vs x = xorBit (bit vs a) (bit vs b)
-nodeValue (And a b) vs x = bit vs a * bit vs b

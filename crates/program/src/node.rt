@@ -4,7 +4,8 @@ use wire::numbers::get16;
 ghost use mathlib.Core.Path.{_≡_};
 ghost use Prim.Native.Nat.{_+_, _*_, _≤_};
 ghost use lib.ListN.{length};
-ghost use Rattle.program.specs.Nodes.{nodeOf, operandsFit, nodeAt, nodeFits, readNode, nodeRead};
+ghost use Rattle.program.specs.Nodes.{nodeOf, operandsFit, nodeAt, nodeFits};
+ghost use Rattle.program.specs.Steps.{readNode, nodeRead};
 
 // A node with the number of its input or the indices of its operands.
 pub enum Node {

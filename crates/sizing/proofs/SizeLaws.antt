@@ -17,9 +17,11 @@ use Rattle.program.specs.declared.node.Node.the-variants.{Zero, One, Input, Not
 use Rattle.program.specs.Exprs.{Expr, ZERO, size}
 use Rattle.program.specs.Nodes.{nodeAt, nodesIn}
 use Rattle.program.specs.Reading.{outputAt}
-use Rattle.program.specs.Trees.{treeOf, trees, NodeOk, TableOk, Fillable}
+use Rattle.program.specs.Trees.{treeOf, trees}
+use Rattle.program.specs.Steps.{NodeOk, TableOk, Fillable}
 use Rattle.program.proofs.TreeLaws.{length-trees, trees-at, node-in, node-inside}
-use Rattle.sizing.specs.Sizing.{shown, nodeSize, nodeSizes, entryFits}
+use Rattle.sizing.specs.Sizing.{shown, nodeSizes}
+use Rattle.sizing.specs.Steps.{nodeSize, entryFits}
 
 -- a size as shown is at most 16,384 just where the size is
 pub size-within : (s : ℕ) → leb (shown s) 16384 ≡ leb s 16384

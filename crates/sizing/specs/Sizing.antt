@@ -1,13 +1,8 @@
 -- The unfolded sizes of the nodes of a table, as the size list holds them.
-use Prim.Native.Nat.{ℕ, _+_, min}
-use mathlib.Core.Bool.{Bool}
+use Prim.Native.Nat.{ℕ, min}
 use mathlib.Core.List.{List, map}
-use lib.ListN.{getD}
-use lib.Dec.{leb}
 use Rattle.program.specs.declared.node.Node.{Node}
-use Rattle.program.specs.declared.node.Node.the-variants.{Zero, One, Input, Not, Xor, And}
 use Rattle.program.specs.Exprs.{size}
-use Rattle.program.specs.Reading.{outputAt}
 use Rattle.program.specs.Trees.{trees}
 
 -- a size as the list shows it: 16,385 if that is less
@@ -17,16 +12,3 @@ shown s = min s 16385
 -- the entry of every node of a table
 unfoldable pub nodeSizes : List Node → List ℕ
 nodeSizes ns = map (λ e. shown (size e)) (trees ns)
-
--- a node's entry, where those of the nodes before it are given
-unfoldable pub nodeSize : Node → List ℕ → ℕ
-nodeSize Zero ss = 1
-nodeSize One ss = 1
-nodeSize (Input j) ss = 1
-nodeSize (Not a) ss = shown (1 + getD ss a 0)
-nodeSize (Xor a b) ss = shown (1 + getD ss a 0 + getD ss b 0)
-nodeSize (And a b) ss = shown (1 + getD ss a 0 + getD ss b 0)
-
--- the entry of the node that output k names is at most 16,384
-abbrev pub entryFits : List ℕ → List ℕ → ℕ → Bool
-entryFits sizes outputs k = leb (getD sizes (outputAt outputs k) 0) 16384

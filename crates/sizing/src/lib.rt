@@ -9,8 +9,9 @@ ghost use lib.ListN.{length, drop};
 ghost use Rattle.wire.specs.Checks.{lowest};
 ghost use Rattle.program.specs.Nodes.{nodesIn};
 ghost use Rattle.program.specs.Reading.{outputAt};
-ghost use Rattle.program.specs.Trees.{NodeOk, Fillable};
-ghost use Rattle.sizing.specs.Sizing.{shown, nodeSize, nodeSizes, entryFits};
+ghost use Rattle.program.specs.Steps.{NodeOk, Fillable};
+ghost use Rattle.sizing.specs.Sizing.{shown, nodeSizes};
+ghost use Rattle.sizing.specs.Steps.{nodeSize, entryFits};
 
 // The largest size that is told apart; the list shows it for every larger one too.
 const TOO_LARGE: u64 = 16385;

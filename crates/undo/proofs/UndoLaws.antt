@@ -19,7 +19,8 @@ use Rattle.gate.proofs.UndoLaws.{without-append, without-few, undo-snoc, undo-l
 use Rattle.gate.proofs.WellFormedLaws.{target-below}
 use Rattle.circuit.specs.declared.reader.CircuitHead.{CircuitHead}
 use Rattle.circuit.specs.Circuits.{Circuit, headOf, gatesIn, InRange}
-use Rattle.circuit.specs.Format.{fileLength, openingBytes, circuitFile, putGates, areaAfter}
+use Rattle.circuit.specs.Format.{fileLength, openingBytes, circuitFile, areaAfter}
+use Rattle.circuit.specs.Steps.{putGates}
 use Rattle.circuit.specs.Reading.{readWithLines}
 use Rattle.circuit.proofs.AcceptedLaws.{accepted, legal, with-lines, lines-gates, reader-room}
 use Rattle.circuit.proofs.GateBodyLaws.{gates-from, gates-none, gates-whole, gates-last, gates-first-none, gate-formed}

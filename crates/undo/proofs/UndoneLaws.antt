@@ -20,7 +20,7 @@ use Rattle.gate.proofs.UndoLaws.{all-without}
 use Rattle.circuit.specs.Circuits.{Circuit, Legal, lineCount}
 use Rattle.circuit.specs.Format.{circuitFile}
 use Rattle.circuit.specs.Reading.{readWithLines}
-use Rattle.circuit.proofs.AcceptedLaws.{accepted, formed, legal, with-lines}
+use Rattle.circuit.proofs.AcceptedLaws.{accepted, formed, with-lines}
 use Rattle.circuit.proofs.FileLaws.{reads-back}
 use Rattle.undo.specs.Theorems.{UndoReadsBack, UndoRestores}
 use Rattle.undo.specs.UndoCircuit.{chosen, undoCircuit, undoFile}

@@ -21,7 +21,8 @@ ghost use Rattle.gate.specs.Gates.{target, Fits};
 ghost use Rattle.gate.specs.GateBytes.{gateAt};
 ghost use Rattle.gate.specs.Running.{without, undo};
 ghost use Rattle.circuit.specs.Circuits.{gatesIn, headOf};
-ghost use Rattle.circuit.specs.Format.{fileLength, putGates, areaAfter};
+ghost use Rattle.circuit.specs.Format.{fileLength, areaAfter};
+ghost use Rattle.circuit.specs.Steps.{putGates};
 ghost use Rattle.undo.specs.UndoCircuit.{chosen, undoFile, undone};
 
 // What undoing a circuit answers: the numbers of the circuit written.

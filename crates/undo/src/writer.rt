@@ -5,7 +5,8 @@ ghost use mathlib.Core.Path.{_≡_};
 ghost use mathlib.Core.List.{_∷_, []};
 ghost use Prim.Native.Nat.{_+_, _≤_};
 ghost use lib.ListN.{length};
-ghost use Rattle.circuit.specs.Format.{fileLength, putGates};
+ghost use Rattle.circuit.specs.Format.{fileLength};
+ghost use Rattle.circuit.specs.Steps.{putGates};
 
 // The lent circuit area, and how many gates are stored in it.
 pub struct GateWriter<'a> {

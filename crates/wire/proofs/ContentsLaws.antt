@@ -10,7 +10,8 @@ use lib.Seq.{drop-length, sets}
 use lib.Dec.{eqb, leb}
 use borrow.Author.Tests.{eqb-true, leb-true, leb-false, eq-eqb, ne-eqb}
 use Rattle.wire.specs.Bytes.{at16, bytes16, bytes32}
-use Rattle.wire.specs.Contents.{tableLength, tableFits, entryTag, entryStart, entryLength, bodyOf, entriesFrom, entriesFit, entriesBytes, contentsBytes, total, Laid}
+use Rattle.wire.specs.Contents.{tableLength, tableFits, entryTag, entryStart, entryLength, bodyOf, entriesFrom, entriesFit, entriesBytes, contentsBytes}
+use Rattle.wire.specs.Steps.{total, Laid}
 use Rattle.wire.proofs.CheckLaws.{both-first, both-second, by-test}
 use Rattle.wire.proofs.ListLaws.{drop-next, sets-then}
 

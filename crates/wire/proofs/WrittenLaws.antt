@@ -9,7 +9,8 @@ use lib.ListN.{length, getD, take, drop, length-append}
 use lib.Dec.{eqb, leb}
 use borrow.Author.Tests.{eqb-true, eq-eqb, le-leb}
 use Rattle.wire.specs.Bytes.{at16, bytes16, bytes32, Bytes}
-use Rattle.wire.specs.Contents.{tableLength, tableFits, entryTag, entryStart, entryLength, entriesFrom, entriesFit, entriesBytes, contentsBytes, total}
+use Rattle.wire.specs.Contents.{tableLength, tableFits, entryTag, entryStart, entryLength, entriesFrom, entriesFit, entriesBytes, contentsBytes}
+use Rattle.wire.specs.Steps.{total}
 use Rattle.wire.specs.Lists.{tabulateFrom, tabulate}
 use Rattle.wire.proofs.ByteLaws.{number16, number32, at16-in, at32-after, drop16, drop32}
 use Rattle.wire.proofs.CheckLaws.{both-first, both-second}

@@ -1,6 +1,5 @@
 -- The table of contents that opens a file: the number of entries, then for each body its tag, its start and its length.
-use Prim.Native.Nat.{ℕ, suc, _+_, _*_, _≤_, _<_}
-use mathlib.Core.Path.{_≡_}
+use Prim.Native.Nat.{ℕ, suc, _+_, _*_}
 use mathlib.Core.Bool.{Bool, _&&_}
 use mathlib.Core.List.{List, [], _∷_, _++_}
 use lib.ListN.{length, take, drop}
@@ -41,11 +40,6 @@ entriesFrom (t ∷ ts) i start f =
 unfoldable pub entriesFit : List ℕ → List ℕ → Bool
 entriesFit tags f = entriesFrom tags 0 (tableLength (length tags)) f
 
--- a file of k bodies, each of which lies within it, behind the table
-pub record Laid (k : ℕ) (f : List ℕ) : Type 0 where
-  pub whole : tableLength k ≤ length f
-  pub within : (i : ℕ) → i < k → entryStart f i + entryLength f i ≤ length f
-
 -- the bytes of the entries with these tags and lengths, the first body starting at start
 unfoldable pub entriesBytes : List ℕ → List ℕ → ℕ → List ℕ
 entriesBytes (t ∷ ts) (l ∷ ls) start = bytes16 t ++ (bytes32 start ++ (bytes32 l ++ entriesBytes ts ls (start + l)))
@@ -55,15 +49,3 @@ entriesBytes (t ∷ ts) [] start = []
 -- the table of contents of bodies with these tags and lengths
 unfoldable pub contentsBytes : List ℕ → List ℕ → List ℕ
 contentsBytes tags lengths = bytes16 (length tags) ++ entriesBytes tags lengths (tableLength (length tags))
-
--- the sum of the bodies' lengths
-unfoldable pub total : List ℕ → ℕ
-total [] = 0
-total (l ∷ ls) = l + total ls
-
--- a table that can be written: a length for each tag, room for it, and every number small enough for its field
-pub record Writable (tags lengths : List ℕ) (room : ℕ) : Type 0 where
-  pub paired : length lengths ≡ length tags
-  pub few : length tags < 65536
-  pub fits : tableLength (length tags) ≤ room
-  pub small : tableLength (length tags) + total lengths < 4294967296

@@ -5,3 +5,4 @@ pub mod Checks
 pub mod Contents
 pub mod Counts
 pub mod Lists
+pub mod Steps

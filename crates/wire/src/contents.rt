@@ -9,7 +9,8 @@ ghost use Prim.Native.Nat.{_+_, _*_, _<_, _≤_};
 ghost use lib.ListN.{length};
 ghost use lib.Seq.{sets};
 ghost use Rattle.wire.specs.Bytes.{bytes16, bytes32};
-ghost use Rattle.wire.specs.Contents.{tableLength, tableFits, entriesFit, entryTag, entryStart, entryLength, bodyOf, contentsBytes, Writable};
+ghost use Rattle.wire.specs.Contents.{tableLength, tableFits, entriesFit, entryTag, entryStart, entryLength, bodyOf, contentsBytes};
+ghost use Rattle.wire.specs.Steps.{Writable};
 
 // Whether the table is there and has count entries.
 pub fn table_fits(file: &[u8], count: u16) -> bool

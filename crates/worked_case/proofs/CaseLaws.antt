@@ -13,7 +13,8 @@ use Rattle.circuit.specs.Circuits.{InRange}
 use Rattle.program.specs.declared.node.Node.the-variants.{Zero}
 use Rattle.program.specs.Exprs.{Expr, INPUT, AND, size}
 use Rattle.program.specs.Nodes.{nodeAt, nodesIn, nodeFits, operandsFit}
-use Rattle.program.specs.Trees.{trees, treesFrom, treeOf, TableOk}
+use Rattle.program.specs.Trees.{trees, treesFrom, treeOf}
+use Rattle.program.specs.Steps.{TableOk}
 use Rattle.program.proofs.NodeLaws.{node-ok}
 use Rattle.construction.specs.Construction.{held, most, linesNeeded}
 use Rattle.construction.specs.Counting.{gateCount, ownCount, shareCount, sharesCount, gatesShown}

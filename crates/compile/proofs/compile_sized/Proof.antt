@@ -9,7 +9,7 @@ use Rattle.wire.specs.Checks.{lowest}
 use Rattle.wire.specs.Contents.{bodyOf}
 use Rattle.construct.specs.Counters.{Needed}
 use Rattle.construct.specs.Tables.{treesIn}
-use Rattle.sizing.specs.Sizing.{entryFits}
+use Rattle.sizing.specs.Steps.{entryFits}
 use Rattle.compile.proofs.SizedLaws.{accepts, named, size-refused, shares-countable, grant-refused, lines-refused, room-refused, few-gates, head-fits, circuit-written}
 use Rattle.compile.proofs.compile_sized.Statement.{statement}
 use Rattle.compile.proofs.compile_sized.Tie as tie

@@ -3,7 +3,7 @@ use native.Mathlib.Omega.{arith}
 use mathlib.Core.Path.{ap, _∙_}
 use mathlib.Core.List.{List}
 use borrow.Author.Needs.{needs}
-use Rattle.circuit.specs.Format.{putGates}
+use Rattle.circuit.specs.Steps.{putGates}
 use Rattle.construction.specs.Construction.{circuit}
 use Rattle.construct.specs.Tables.{treesIn}
 use Rattle.compile.proofs.BodyLaws.{writable-same}

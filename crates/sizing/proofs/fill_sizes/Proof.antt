@@ -7,7 +7,8 @@ use lib.Seq.{length-take-le}
 use Rattle.wire.proofs.FillLaws.{Filled, filled-start}
 use Rattle.program.specs.declared.node.Node.{Node}
 use Rattle.program.specs.Nodes.{nodesIn}
-use Rattle.sizing.specs.Sizing.{nodeSize, nodeSizes}
+use Rattle.sizing.specs.Sizing.{nodeSizes}
+use Rattle.sizing.specs.Steps.{nodeSize}
 use Rattle.sizing.proofs.SizeLaws.{size-stored, sizes-stored}
 use Rattle.program.proofs.TreeLaws.{next-ok}
 use Rattle.sizing.proofs.fill_sizes.Statement.{statement}

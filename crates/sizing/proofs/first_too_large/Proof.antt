@@ -4,7 +4,7 @@ use mathlib.Core.Path.{sym}
 use native.Mathlib.Omega.{arith}
 use lib.ListN.{length}
 use Rattle.wire.proofs.CheckLaws.{Passed, passed-start, passed-next, passed-fails, passed-all}
-use Rattle.sizing.specs.Sizing.{entryFits}
+use Rattle.sizing.specs.Steps.{entryFits}
 use Rattle.sizing.proofs.SizeLaws.{entry-fits, entry-large}
 use Rattle.sizing.proofs.first_too_large.Statement.{statement}
 use Rattle.sizing.proofs.first_too_large.Tie as tie

@@ -1,7 +1,8 @@
 use mathlib.Core.Path.{refl, ap, _∙_}
 use native.Mathlib.Nat.{add-zero}
 use native.Mathlib.Omega.{arith}
-use Rattle.sizing.specs.Sizing.{shown, nodeSize}
+use Rattle.sizing.specs.Sizing.{shown}
+use Rattle.sizing.specs.Steps.{nodeSize}
 use Rattle.program.proofs.NodeLaws.{not-operand, xor-operands, and-operands}
 use borrow.Author.Needs.{needs}
 use Rattle.sizing.proofs.node_size.Statement.{statement}

@@ -14,7 +14,7 @@ use lib.ListN.{length}
 use Rattle.gate.specs.declared.gates.Gate.{Gate}
 use Rattle.gate.specs.GateBytes.{gateAt}
 use Rattle.gate.specs.Running.{without}
-use Rattle.circuit.specs.Format.{putGates}
+use Rattle.circuit.specs.Steps.{putGates}
 use Rattle.undo.specs.UndoCircuit.{chosen}
 use Rattle.gate.proofs.UndoLaws.{one-out, one-kept}
 use Rattle.circuit.proofs.WriterLaws.{put-none}

@@ -2,7 +2,8 @@ use mathlib.Core.Path.{_≡_, sym, ap, _∙_}
 use Rattle.wire.specs.Answers.{result}
 use mathlib.Core.Bool.{true}
 use borrow.Author.Tests.{not-true, not-false}
-use Rattle.wire.specs.Contents.{tableFits, entriesFit, entryLength, Laid}
+use Rattle.wire.specs.Contents.{tableFits, entriesFit, entryLength}
+use Rattle.wire.specs.Steps.{Laid}
 use Rattle.wire.proofs.ContentsLaws.{table-whole, laid}
 use Rattle.circuit.specs.Format.{tags, headLength}
 use Rattle.circuit.specs.Reading.{lengthsFit, rangesFit, readHead}

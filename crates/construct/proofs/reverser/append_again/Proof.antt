@@ -7,7 +7,7 @@ use mathlib.Core.List.{[], _∷_}
 use denote.Ref.{now}
 use Rattle.gate.specs.declared.gates.Gate.{Gate}
 use Rattle.gate.specs.Gates.{target}
-use Rattle.circuit.specs.Format.{putGates}
+use Rattle.circuit.specs.Steps.{putGates}
 use Rattle.construct.specs.Writing.{gateIn}
 use Rattle.construct.proofs.ReverseLaws.{from-part, again-none, again-room, again-one}
 

@@ -8,7 +8,8 @@ use denote.Ref.{now}
 use Rattle.wire.proofs.FillLaws.{Filled, filled-start}
 use Rattle.program.specs.declared.node.Node.{Node}
 use Rattle.program.specs.Nodes.{nodesIn}
-use Rattle.program.specs.Programs.{nodeValue, nodeValues}
+use Rattle.program.specs.Programs.{nodeValues}
+use Rattle.program.specs.Steps.{nodeValue}
 use Rattle.evaluate.proofs.FillLaws.{front-bits, value-stored, values-stored}
 use Rattle.program.proofs.TreeLaws.{next-ok}
 use Rattle.evaluate.proofs.values.fill_values.Statement.{statement}

@@ -1,6 +1,6 @@
 use mathlib.Core.Path.{refl}
 use native.Mathlib.Omega.{arith}
-use Rattle.program.specs.Programs.{nodeValue}
+use Rattle.program.specs.Steps.{nodeValue}
 use Rattle.program.proofs.NodeLaws.{input-below, not-operand, xor-operands, and-operands}
 use borrow.Author.Needs.{needs}
 use Rattle.evaluate.proofs.values.node_value.Statement.{statement}

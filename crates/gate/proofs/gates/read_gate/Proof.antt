@@ -3,7 +3,7 @@ use Rattle.gate.proofs.gates.read_gate.Statement.{statement}
 use Rattle.gate.proofs.gates.read_gate.Tie as tie
 use mathlib.Core.Path.{ap, sym, _∙_}
 use Rattle.wire.specs.Answers.{result}
-use Rattle.gate.specs.GateBytes.{readGate}
+use Rattle.gate.specs.Steps.{readGate}
 
 gate-fits-requires : tie.Need-gate-fits-requires
 gate-fits-requires c κs = search needs

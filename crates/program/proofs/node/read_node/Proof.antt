@@ -1,6 +1,6 @@
 use Rattle.wire.specs.Answers.{result}
 use mathlib.Core.Path.{ap, sym, _∙_}
-use Rattle.program.specs.Nodes.{readNode}
+use Rattle.program.specs.Steps.{readNode}
 use borrow.Author.Needs.{needs}
 use Rattle.program.proofs.node.read_node.Statement.{statement}
 use Rattle.program.proofs.node.read_node.Tie as tie

@@ -1,7 +1,6 @@
 use native.Mathlib.Omega.{arith}
 use mathlib.Core.Path.{ap, _∙_}
 use lib.ListN.{length}
-use borrow.Author.Needs.{needs}
 use Rattle.wire.specs.Counts.{countsFit}
 use Rattle.wire.proofs.ContentsLaws.{body-there}
 use Rattle.program.proofs.ReadingLaws.{head-long}

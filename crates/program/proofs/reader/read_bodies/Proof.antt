@@ -8,7 +8,8 @@ use borrow.Author.Tests.{eq-eqb, ne-eqb}
 use Rattle.wire.specs.Answers.{refused}
 use Rattle.wire.specs.Bytes.{at16}
 use Rattle.wire.specs.Checks.{lowest}
-use Rattle.wire.specs.Contents.{bodyOf, Laid}
+use Rattle.wire.specs.Contents.{bodyOf}
+use Rattle.wire.specs.Steps.{Laid}
 use Rattle.program.specs.Nodes.{nodeFits}
 use Rattle.wire.proofs.ContentsLaws.{body-there}
 use Rattle.wire.specs.Counts.{inputsOf, outputsOf}

@@ -1,7 +1,8 @@
 use mathlib.Core.Path.{_≡_, sym, _∙_}
 use mathlib.Core.Bool.{true}
 use borrow.Author.Tests.{not-true, not-false}
-use Rattle.wire.specs.Contents.{tableFits, entriesFit, bodyOf, Laid}
+use Rattle.wire.specs.Contents.{tableFits, entriesFit, bodyOf}
+use Rattle.wire.specs.Steps.{Laid}
 use Rattle.wire.specs.Counts.{countsFit}
 use Rattle.wire.proofs.ContentsLaws.{table-whole, laid}
 use Rattle.program.specs.Reading.{tags, lengthsFit, readProgram}

@@ -42,7 +42,8 @@ use denote.Signature.Struct.{inStruct, makes}
 use Rattle.gate.specs.declared.gates.Gate.{Gate}
 use Rattle.gate.proofs.gates.Gate as G
 use Rattle.gate.proofs.gates.Gate.Laws as G′
-use Rattle.circuit.specs.Format.{fileLength, putGates}
+use Rattle.circuit.specs.Format.{fileLength}
+use Rattle.circuit.specs.Steps.{putGates}
 use Rattle.undo.specs.declared.writer.GateWriter.{GateWriter}
 use Rattle.undo.proofs.writer.GateWriter as T
 use Rattle.undo.proofs.writer.GateWriter.Laws as T′
