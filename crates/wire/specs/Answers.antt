@@ -5,7 +5,7 @@ use Rattle.wire.specs.Checks.{allBelow, lowest}
 use Rattle.wire.specs.declared.refusals.Refusal.{Refusal}
 use Rattle.wire.specs.declared.refusals.Refusal.the-variants as cause
 
--- what a cause is told by: its number, and its place (01), which is 0 unless the cause holds one
+-- what a refusal shows: its number, and its place (01), which is 0 unless the cause holds one
 pub record Numbered : Type 0 where
   pub number : ℕ
   pub place : ℕ

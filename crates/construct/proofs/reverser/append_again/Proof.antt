@@ -17,7 +17,9 @@ changes c = c .target-at .ensures ∙ ap target (from-part _ _)
 
 -- it is not the line left out
 other : (c : tie.Else1) → c .before .before .before .before .before .args .excluded ≢ target (gateIn (now (c .before .before .before .before .before .args .area)) (c .before .before .before .before .before .args .i))
-other c e = c .if1 .left (e ∙ sym (changes (c .before)))
+other c e =
+    let differs : c .before .before .before .before .before .args .excluded ≢ c .before .target-at .result = c .if1 .left in
+    differs (e ∙ sym (changes (c .before)))
 
 -- the gate that is read then
 read : (c : tie.After-gate-at) → c .gate-at .result ≡ gateIn (now (c .before .before .before .before .before .before .before .before .args .area)) (c .before .before .before .before .before .before .before .before .args .i)

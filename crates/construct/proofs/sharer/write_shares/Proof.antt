@@ -28,7 +28,7 @@ output-at-requires : tie.Need-output-at-requires Inv-loop μ-loop
 output-at-requires c κs = search needs
 
 write-share-requires : tie.Need-write-share-requires Inv-loop μ-loop
-write-share-requires c κs = rw (c .before .output-at .ensures) (writing-room _ _ _ _ (c .before .before .before .loop .inv) (c .before .before .loop-test .taken) (c .before .before .before .before .before .before .before .pre) (omega arith) (omega (arith, c .before .before .loop-test .taken)))
+write-share-requires c κs = rw (c .before .output-at .ensures) (writing-room _ _ _ _ (c .before .before .before .loop .inv) (omega (arith, c .before .before .loop-test .taken)) (c .before .before .before .before .before .before .before .pre) (omega arith) (omega (arith, c .before .before .loop-test .taken)))
 
 add-k : tie.Need-add-k Inv-loop μ-loop
 add-k c = search needs
@@ -37,7 +37,7 @@ loop-less : tie.Need-loop-less Inv-loop μ-loop
 loop-less c = search needs
 
 loop-again : tie.Need-loop-again Inv-loop μ-loop
-loop-again c = writing-next _ _ _ _ (c .before .before .before .before .before .before .loop .inv) (c .before .before .before .before .before .loop-test .taken) (rw (c .before .before .before .before .output-at .ensures) at (c .before .before .write-share .ensures))
+loop-again c = writing-next _ _ _ _ (c .before .before .before .before .before .before .loop .inv) (omega (arith, c .before .before .before .before .before .loop-test .taken)) (rw (c .before .before .before .before .output-at .ensures) at (c .before .before .write-share .ensures))
 
 same-length : tie.Need-same-length Inv-loop μ-loop
 same-length c = c .before .loop .inv .same

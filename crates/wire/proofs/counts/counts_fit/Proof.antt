@@ -1,11 +1,22 @@
 use Prim.Native.Nat.{ℕ}
-use mathlib.Core.Path.{ap, ap₂, _∙_}
-use mathlib.Core.Bool.{_&&_}
+use mathlib.Core.Path.{_≡_, ap, ap₂, _∙_}
+use mathlib.Core.Bool.{Bool, _&&_}
+use mathlib.Core.List.{List}
 use lib.Dec.{leb}
 use borrow.Author.Needs.{needs}
+use Rattle.wire.specs.Bytes.{at16}
 use Rattle.wire.specs.Counts.{countsFit}
 use Rattle.wire.proofs.counts.counts_fit.Statement.{statement}
 use Rattle.wire.proofs.counts.counts_fit.Tie as tie
+
+-- the tests, put together step by step
+counts-tests : (head : List ℕ) {n m : ℕ} {outputs r : Bool} → n ≡ at16 head 0 → m ≡ at16 head 2
+    → outputs ≡ (leb 1 m && leb m 64)
+    → r ≡ (leb n 64 && outputs)
+    → r ≡ countsFit head
+unfolding countsFit
+counts-tests head pn pm t₁ t₀ =
+    t₀ ∙ ap₂ _&&_ (ap (λ (n : ℕ). leb n 64) pn) (t₁ ∙ ap (λ (m : ℕ). leb 1 m && leb m 64) pm)
 
 get16-requires : tie.Need-get16-requires
 get16-requires c κs = search needs
@@ -20,10 +31,9 @@ both-requires-2 : tie.Need-both-requires-2
 both-requires-2 c κs = search needs
 
 returns : tie.Need-returns
-unfolding countsFit
 returns c =
-    let outputs = c .before .both .ensures ∙ ap (λ (m : ℕ). leb 1 m && leb m 64) (c .before .before .before .get16 .ensures) in
-    c .both2 .ensures ∙ ap₂ _&&_ (ap (λ (n : ℕ). leb n 64) (c .before .before .get162 .ensures)) outputs
+    counts-tests (c .before .before .before .before .before .args .head .now) (c .before .before .get162 .ensures) (c .before .before .before .get16 .ensures)
+    (c .before .both .ensures) (c .both2 .ensures)
 
 pub counts-fit-spec : {M : Type 1} → statement M
 counts-fit-spec =
