@@ -90,6 +90,17 @@ pub fn with_bodies_swapped(random: &mut Random, mut layout: Layout) -> Vec<u8> {
     .bytes()
 }
 
+/// Every file that differs from this one in at most one byte.
+pub fn each_byte_changed(file: &[u8]) -> impl Iterator<Item = Vec<u8>> + '_ {
+    (0..file.len()).flat_map(move |at| {
+        (0..=255).map(move |byte| {
+            let mut changed = file.to_vec();
+            changed[at] = byte;
+            changed
+        })
+    })
+}
+
 /// The file with one byte changed, every other time one of the first few.
 pub fn with_a_byte_changed(random: &mut Random, mut file: Vec<u8>, first: usize) -> Vec<u8> {
     let reach = random.pick(&[first, file.len()]);

@@ -1,16 +1,19 @@
-//! Program and circuit files for the tests that hold `liboracle.a` against the model: written field
-//! by field, shaped at every limit of the formats and of compiling, or drawn at random, whole and
-//! damaged; and the cases of the listing program.
+//! Holds `liboracle.a` against the model: each service on both sides, and the program and circuit
+//! files for that, written field by field, shaped at every limit of the formats and of compiling, or
+//! drawn at random, whole and damaged; and the cases of the listing program.
 
 pub mod circuit;
+pub mod compare;
 pub mod damage;
 pub mod drawn;
+pub mod fuzz;
 pub mod layout;
 pub mod lent;
 pub mod limits;
 pub mod listing_cases;
 pub mod program;
 pub mod random;
+pub mod seen;
 pub mod shaped;
 pub mod shaped_circuit;
 pub mod tally;
@@ -19,15 +22,14 @@ pub mod tally;
 /// place.
 pub type Outcome<T> = Result<T, (u64, u64)>;
 
-/// A file's bytes for a message, in hex.
+/// The first of a file's bytes for a message, in hex.
 pub fn hex(bytes: &[u8]) -> String {
     let shown = bytes.len().min(512);
-    let mut text = format!("{} bytes:", bytes.len());
-    for byte in &bytes[..shown] {
-        text += &format!(" {byte:02x}");
-    }
-    if shown < bytes.len() {
-        text += " ..";
-    }
-    text
+    let rest = if shown < bytes.len() { " .." } else { "" };
+    format!("{} bytes:{}{rest}", bytes.len(), digits(&bytes[..shown]))
+}
+
+/// Every byte as two hex digits behind a blank.
+pub fn digits(bytes: &[u8]) -> String {
+    bytes.iter().map(|byte| format!(" {byte:02x}")).collect()
 }

@@ -47,6 +47,24 @@ pub(crate) fn refused(name: &str, file: Vec<u8>, number: u64, place: u64) -> Sha
     Shaped { name: name.to_string(), file, expected: Err((number, place)) }
 }
 
+/// Tries each file that reading refuses with a call of a service: whatever else the call is given,
+/// the refusal has to come through as it is.
+pub fn each_refused(
+    service: &str,
+    files: Vec<Shaped>,
+    mut refuses: impl FnMut(&str, &[u8], (u64, u64)),
+) {
+    let mut count = 0;
+    for shaped in files {
+        if let Err(refusal) = shaped.expected {
+            refuses(&shaped.name, &shaped.file, refusal);
+            count += 1;
+        }
+    }
+    println!("{service}: {count} shaped files");
+    assert!(count > 100, "{service}: too few shaped files");
+}
+
 /// The fields of the whole case.
 pub fn whole_case() -> Program {
     Program::new(2, &[input(0), input(1), and(0, 1)], &[2])

@@ -539,6 +539,58 @@ fn causes_together() -> Vec<Shaped> {
     ]
 }
 
+/// Line or choice bytes that are refused with 13, and the circuit that they are for.
+pub struct BadBits {
+    /// What is wrong with them.
+    pub name: String,
+    /// The circuit.
+    pub circuit: Circuit,
+    /// The bytes.
+    pub bits: Vec<u8>,
+}
+
+/// Bytes of every kind that is refused with 13.
+pub fn bad_bits() -> Vec<BadBits> {
+    [too_few_or_too_many_bits(), bytes_that_are_no_bits()].into_iter().flatten().collect()
+}
+
+fn too_few_or_too_many_bits() -> Vec<BadBits> {
+    let lengths: [(Circuit, &[usize]); 3] = [
+        (whole_case(), &[0, 1, 4, 6, 64, 261, 65541]),
+        (nots(1), &[0, 2]),
+        (Circuit::new(64, 64, 1024, &[]), &[1151, 1153]),
+    ];
+    let bad = |circuit: &Circuit, length: usize, bit: u8| BadBits {
+        name: format!("{length} bytes of {bit} for {} lines", circuit.lines()),
+        circuit: circuit.clone(),
+        bits: vec![bit; length],
+    };
+    let of_length = |circuit: &Circuit, length| [0, 1].map(|bit| bad(circuit, length, bit));
+    lengths
+        .iter()
+        .flat_map(|(circuit, lengths)| lengths.iter().flat_map(|at| of_length(circuit, *at)))
+        .collect()
+}
+
+fn bytes_that_are_no_bits() -> Vec<BadBits> {
+    // Lines that no gate uses are checked all the same.
+    let places: [(Circuit, &[usize]); 3] = [
+        (whole_case(), &[0, 1, 2, 3, 4]),
+        (nots(1), &[0]),
+        (Circuit::new(64, 64, 1024, &[]), &[0, 63, 64, 127, 128, 256, 1151]),
+    ];
+    let bad = |circuit: &Circuit, at: usize, byte: u8| {
+        let mut bits: Vec<u8> = (0..circuit.lines()).map(|line| line as u8 & 1).collect();
+        bits[at] = byte;
+        BadBits { name: format!("byte {at} is {byte}"), circuit: circuit.clone(), bits }
+    };
+    let at_place = |circuit: &Circuit, at| [2, 3, 128, 254, 255].map(|byte| bad(circuit, at, byte));
+    places
+        .iter()
+        .flat_map(|(circuit, places)| places.iter().flat_map(|at| at_place(circuit, *at)))
+        .collect()
+}
+
 /// A file of 5 lines for each cause of the reader, and the refusal. Each has the faults of the later
 /// ones too, as far as it can.
 pub fn faults() -> Vec<(Vec<u8>, (u64, u64))> {

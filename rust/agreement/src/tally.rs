@@ -28,21 +28,38 @@ impl Tally {
         }
     }
 
-    /// Prints the run, and fails unless it was long enough and met results and exactly the
-    /// refusals of the service. The time is that of making a case, of both sides and of comparing.
-    pub fn finish(&self, at_least: u64, refusals: &[usize]) {
+    /// Prints the run. The time is that of making a case, of both sides and of comparing.
+    pub fn print(&self) {
         let service = self.service;
-        let cases = self.cases;
-        let nanoseconds = self.start.elapsed().as_nanos() / u128::from(cases.max(1));
-        println!("{service}: {cases} cases, {nanoseconds} ns a case");
+        let nanoseconds = self.start.elapsed().as_nanos() / u128::from(self.cases.max(1));
+        println!("{service}: {} cases, {nanoseconds} ns a case", self.cases);
         println!("{service}: {} results", self.results);
         for (number, count) in self.refusals.iter().enumerate() {
             if *count > 0 {
                 println!("{service}: {count} refusals of cause {number}");
             }
         }
+    }
 
-        assert!(cases >= at_least, "{service}: too few cases");
+    /// What the columns of [`Tally::row`] hold.
+    pub fn heading() -> String {
+        let causes: String = (1..16).map(|number| format!(" {number:>7}")).collect();
+        format!("{:<13} {:>8} {:>8}{causes}", "service", "calls", "results")
+    }
+
+    /// The counts in one line: cases, results, and the refusals from 1 to 15.
+    pub fn row(&self) -> String {
+        let refusals = self.refusals[1..].iter().map(|count| format!(" {count:>7}"));
+        let refusals: String = refusals.collect();
+        format!("{:<13} {:>8} {:>8}{refusals}", self.service, self.cases, self.results)
+    }
+
+    /// Prints the run, and fails unless it was long enough and met results and exactly these
+    /// refusals.
+    pub fn finish(&self, at_least: u64, refusals: &[usize]) {
+        self.print();
+        let service = self.service;
+        assert!(self.cases >= at_least, "{service}: too few cases");
         assert!(self.results > 0, "{service}: no result was seen");
         for (number, count) in self.refusals.iter().enumerate() {
             assert_eq!(

@@ -1,140 +1,15 @@
 //! compile: the archive beside the model, both lent areas before and after included.
 
 use agreement::circuit::{cnot, not as flip, toffoli, Circuit};
-use agreement::lent::lent;
+use agreement::compare::compile::{archive, compare, drawn as call, model, needs, random_list};
+use agreement::compare::compile::{Case, TOO_HIGH};
+use agreement::compare::{MOST_BYTES, NO_GATES};
 use agreement::program::{self, and, input, not, xor, Node, Program, ONE, ZERO};
 use agreement::random::Random;
+use agreement::seen::Seen;
 use agreement::tally::Tally;
-use agreement::{drawn, hex, limits, shaped, shaped_circuit, Outcome};
+use agreement::{damage, drawn, limits, shaped, shaped_circuit, Outcome};
 use model::construct;
-
-/// The length of a circuit file without gates.
-const NO_GATES: usize = 28;
-
-/// The length of the longest circuit file, of 8,000 gates.
-const MOST_BYTES: usize = 64_028;
-
-/// Grants over 1,024, as wide as the parameter. In 16 or 32 bits, some would be 0 or 2.
-const TOO_HIGH: [u64; 10] = [
-    1_025,
-    1_026,
-    2_048,
-    65_535,
-    1 << 16,
-    (1 << 16) + 2,
-    1 << 32,
-    (1 << 32) + 2,
-    1 << 63,
-    u64::MAX,
-];
-
-/// What one call is given.
-struct Case {
-    file: Vec<u8>,
-    grant: u64,
-    sizes: Vec<u16>,
-    area: Vec<u8>,
-}
-
-impl Case {
-    /// A case with areas of these lengths that hold no two equal neighbours, and no zero.
-    fn new(file: &[u8], grant: u64, entries: usize, length: usize) -> Case {
-        Case {
-            file: file.to_vec(),
-            grant,
-            sizes: (0..entries).map(|at| at as u16 | 0x8000).collect(),
-            area: (0..length).map(|at| at as u8 | 0x80).collect(),
-        }
-    }
-
-    fn describe(&self) -> String {
-        let (grant, entries, length) = (self.grant, self.sizes.len(), self.area.len());
-        format!("grant {grant}, list of {entries}, area of {length}, file of {}", hex(&self.file))
-    }
-}
-
-/// What one call gives, and the size list and the area after it.
-type Compiled = (Outcome<usize>, Vec<u16>, Vec<u8>);
-
-fn archive(case: &Case) -> Compiled {
-    let (((outcome, area), sizes), file) = lent(&case.file, |file| {
-        lent(&case.sizes, |sizes| {
-            lent(&case.area, |area| {
-                oracle::compile(file, case.grant, sizes, area)
-                    .map_err(|refusal| (refusal.number, refusal.place))
-            })
-        })
-    });
-    assert!(file == case.file, "the file was written");
-    (outcome, sizes, area)
-}
-
-fn model(case: &Case) -> Compiled {
-    let (mut sizes, mut area) = (case.sizes.clone(), case.area.clone());
-    let outcome = model::compile::compile(&case.file, case.grant, &mut sizes, &mut area)
-        .map_err(|refusal| (refusal.number, refusal.place));
-    (outcome, sizes, area)
-}
-
-/// Runs both sides on a case and holds them to each other and to what 01 says of each outcome.
-fn compare(case: &Case) -> Outcome<usize> {
-    let (expected, expected_sizes, expected_area) = model(case);
-    let (outcome, sizes, area) = archive(case);
-    assert_eq!(outcome, expected, "the archive, then the model, {}", case.describe());
-    match outcome {
-        Ok(length) => {
-            reads_back(case, &area[..length]);
-            assert!(area[length..] == case.area[length..], "past the file, {}", case.describe());
-        }
-        Err((11, _)) => assert!(area.iter().all(|byte| *byte == 0), "11, {}", case.describe()),
-        Err(_) => assert!(area == case.area, "a refusal leaves the area, {}", case.describe()),
-    }
-    match outcome {
-        Err((1..=7, _)) => assert_eq!(sizes, case.sizes, "1 to 7, {}", case.describe()),
-        _ => holds_sizes(case, &sizes),
-    }
-    assert_eq!(sizes, expected_sizes, "the lists of archive and model, {}", case.describe());
-    assert!(area == expected_area, "the areas of archive and model differ, {}", case.describe());
-    outcome
-}
-
-/// The list starts with the nodes' sizes, as their operands' give them, and ends as it did before.
-fn holds_sizes(case: &Case, sizes: &[u16]) {
-    use model::program::Node::{And, Input, Not, One, Xor, Zero};
-
-    let nodes = model::program::read(&case.file).expect("a filled list needs a program").nodes;
-    let size = |i: usize| u32::from(sizes[i]);
-    for (i, node) in nodes.iter().enumerate() {
-        let unfolded = match *node {
-            Zero | One | Input(_) => 1,
-            Not(a) => 1 + size(a),
-            Xor(a, b) | And(a, b) => 1 + size(a) + size(b),
-        };
-        assert_eq!(size(i), unfolded.min(16_385), "the size of node {i}, {}", case.describe());
-    }
-    let behind = nodes.len();
-    assert_eq!(sizes[behind..], case.sizes[behind..], "past the nodes, {}", case.describe());
-}
-
-/// Both readers accept what was written: the program's head, and the construction's gates.
-fn reads_back(case: &Case, written: &[u8]) {
-    let program = model::program::read(&case.file).expect("a result needs a program");
-    let wanted = construct::circuit(&program);
-    let given = model::circuit::read(written);
-    let given = given.unwrap_or_else(|refusal| panic!("{refusal:?}, {}", case.describe()));
-    for (at, (gate, wanted)) in given.gates.iter().zip(&wanted.gates).enumerate() {
-        assert_eq!(gate, wanted, "gate {at}, {}", case.describe());
-    }
-    let count = wanted.gates.len();
-    assert_eq!(given.gates.len(), count, "the number of gates, {}", case.describe());
-    assert_eq!(oracle::read_circuit(written), Ok(count as u64), "{}", case.describe());
-    assert_eq!(
-        (given.inputs, given.outputs, given.work),
-        (wanted.inputs, wanted.outputs, wanted.work),
-        "the head, {}",
-        case.describe()
-    );
-}
 
 /// A shaped case on both sides, with what is expected of the answer, the list and the area.
 fn check(name: &str, case: &Case, expected: Outcome<usize>, sizes: &[u16], area: &[u8]) {
@@ -535,21 +410,13 @@ fn causes_together() {
 /// The refusals of reading come through as they are, whatever else is wrong.
 #[test]
 fn shaped_files_refused_by_the_reader() {
-    let mut refusals = 0;
-    for shaped in shaped::all() {
-        let Err(refusal) = shaped.expected else {
-            continue;
-        };
-        refusals += 1;
-        for (grant, entries, length) in
-            [(1_024, 4_096, MOST_BYTES), (0, 70_000, 1), (1_025, 2, 0), (u64::MAX, 0, 100)]
-        {
-            let case = Case::new(&shaped.file, grant, entries, length);
-            check(&shaped.name, &case, Err(refusal), &case.sizes, &case.area);
+    let calls = [(1_024, 4_096, MOST_BYTES), (0, 70_000, 1), (1_025, 2, 0), (u64::MAX, 0, 100)];
+    shaped::each_refused("compile", shaped::all(), |name, file, refusal| {
+        for (grant, entries, length) in calls {
+            let case = Case::new(file, grant, entries, length);
+            check(name, &case, Err(refusal), &case.sizes, &case.area);
         }
-    }
-    println!("compile: {refusals} shaped files");
-    assert!(refusals > 100, "too few shaped files");
+    });
 }
 
 /// Files that the reader accepts, at and about what their circuits need.
@@ -566,7 +433,7 @@ fn shaped_files_accepted_by_the_reader() {
         for grant in [work, work.saturating_sub(1), 1_024, 1_025, u64::MAX] {
             for entries in [nodes, nodes + 1, nodes - 1] {
                 for length in [needed, needed + 1, needed - 1, 0] {
-                    let (sizes, area) = (list(&mut random, entries), random.bytes(length));
+                    let (sizes, area) = (random_list(&mut random, entries), random.bytes(length));
                     let case = Case { file: shaped.file.clone(), grant, sizes, area };
                     tally.count(&compare(&case));
                 }
@@ -576,80 +443,16 @@ fn shaped_files_accepted_by_the_reader() {
     tally.finish(1_000, &[7, 8, 9, 10, 11]);
 }
 
-/// The work lines and the bytes that the circuit of a program file needs, where no output is too
-/// large.
-fn needs(file: &[u8]) -> Option<(u64, usize)> {
-    let program = model::program::read(file).ok()?;
-    let sizes = construct::sizes(&program.nodes);
-    if program.outputs.iter().any(|i| sizes[*i] > 16_384) {
-        return None;
-    }
-    let gates = program.outputs.iter().map(|i| construct::share_gate_count(&program.nodes, *i));
-    let length = NO_GATES + 8 * gates.sum::<usize>();
-    Some((construct::most_work_lines(&program) as u64, length))
-}
-
-/// So many random entries.
-fn list(random: &mut Random, entries: usize) -> Vec<u16> {
-    (0..entries).map(|_| random.number() as u16).collect()
-}
-
 /// Every one-byte change of a small file.
 #[test]
 fn each_byte_of_the_whole_case_changed() {
     let mut tally = Tally::new("compile, one byte changed");
-    for at in 0..shaped::WHOLE_CASE.len() {
-        for byte in 0..=255 {
-            let mut file = shaped::WHOLE_CASE.to_vec();
-            file[at] = byte;
-            for (grant, length) in [(2, 68), (1, 68), (2, 67), (1_024, 35)] {
-                tally.count(&compare(&Case::new(&file, grant, 3, length)));
-            }
+    for file in damage::each_byte_changed(&shaped::WHOLE_CASE) {
+        for (grant, length) in [(2, 68), (1, 68), (2, 67), (1_024, 35)] {
+            tally.count(&compare(&Case::new(&file, grant, 3, length)));
         }
     }
     tally.finish(56 * 256 * 4, &[1, 2, 3, 4, 5, 6, 10, 11]);
-}
-
-/// What the random cases met.
-#[derive(Default)]
-struct Seen {
-    with_shared_nodes: u64,
-    with_64_inputs_and_64_outputs: u64,
-    with_bytes_behind: u64,
-    most_gates: usize,
-    most_work_lines: u64,
-}
-
-impl Seen {
-    fn count(&mut self, case: &Case, length: usize) {
-        let program = model::program::read(&case.file).expect("a result needs a program");
-        let sizes = construct::sizes(&program.nodes);
-        let shared = program.outputs.iter().any(|i| sizes[*i] > program.nodes.len());
-        let wide = (program.inputs, program.outputs.len()) == (64, 64);
-        self.with_shared_nodes += u64::from(shared);
-        self.with_64_inputs_and_64_outputs += u64::from(wide);
-        self.with_bytes_behind += u64::from(case.area.len() > length);
-        self.most_gates = self.most_gates.max((length - NO_GATES) / 8);
-        self.most_work_lines =
-            self.most_work_lines.max(construct::most_work_lines(&program) as u64);
-    }
-
-    fn finish(&self) {
-        println!(
-            "compile: results: {} with shared nodes, {} with 64 inputs and 64 outputs, \
-             {} with bytes behind the file, at most {} gates and {} work lines",
-            self.with_shared_nodes,
-            self.with_64_inputs_and_64_outputs,
-            self.with_bytes_behind,
-            self.most_gates,
-            self.most_work_lines
-        );
-        assert!(self.with_shared_nodes > 1_000, "too few shared nodes");
-        assert!(self.with_64_inputs_and_64_outputs > 200, "too few wide programs");
-        assert!(self.with_bytes_behind > 1_000, "too few long areas");
-        assert!(self.most_gates > 7_000, "no circuit with many gates");
-        assert!(self.most_work_lines > 1_000, "no circuit with many work lines");
-    }
 }
 
 #[test]
@@ -657,16 +460,30 @@ fn random_and_damaged_cases() {
     let mut random = Random::new(0x636f_6d70);
     let mut tally = Tally::new("compile");
     let mut seen = Seen::default();
+    let mut with_bytes_behind = 0;
     for _ in 0..20_000 {
         let case = random_case(&mut random);
         let outcome = compare(&case);
         tally.count(&outcome);
         if let Ok(length) = outcome {
-            seen.count(&case, length);
+            count(&mut seen, &case, length);
+            with_bytes_behind += u64::from(case.area.len() > length);
         }
     }
     tally.finish(20_000, &[1, 2, 3, 4, 5, 6, 7, 8, 9, 10, 11]);
-    seen.finish();
+    seen.print("compile, results");
+    println!("compile, results: {with_bytes_behind} with bytes behind the file");
+    assert!(seen.with_shared_nodes > 1_000, "too few shared nodes");
+    assert!(seen.with_64_inputs_and_64_outputs > 200, "too few wide programs");
+    assert!(with_bytes_behind > 1_000, "too few long areas");
+    assert!(seen.most_gates > 7_000, "no circuit with many gates");
+    assert!(seen.most_work_lines > 1_000, "no circuit with many work lines");
+}
+
+fn count(seen: &mut Seen, case: &Case, length: usize) {
+    let program = model::program::read(&case.file).expect("a result needs a program");
+    let work = construct::most_work_lines(&program);
+    seen.program(&program, (length - NO_GATES) / 8, work);
 }
 
 /// Mostly a good file; then mostly a list, a grant and an area that are enough.
@@ -677,50 +494,5 @@ fn random_case(random: &mut Random) -> Case {
         3 => drawn::large(random).bytes(),
         _ => drawn::accepted(random).bytes(),
     };
-    // Of a refused file, or a size that is too large, nothing is right and any will do.
-    let nodes = model::program::read(&file).map_or(3, |program| program.nodes.len());
-    let (work, needed) = needs(&file).unwrap_or((2, 68));
-    let entries = random_entries(random, nodes);
-    let grant = random_grant(random, work);
-    let length = random_length(random, needed);
-    Case { file, grant, sizes: list(random, entries), area: random.bytes(length) }
-}
-
-fn random_entries(random: &mut Random, nodes: usize) -> usize {
-    match random.below(24) {
-        0 => nodes - 1,
-        1 => random.below(nodes),
-        2 => 0,
-        3..=6 => nodes + 1,
-        7..=9 => nodes + random.within(2..=64),
-        10 => nodes.max(4_096),
-        _ => nodes,
-    }
-}
-
-fn random_grant(random: &mut Random, work: u64) -> u64 {
-    let any = random.number();
-    match random.below(24) {
-        0..=2 => work.saturating_sub(1),
-        3 => work / 2,
-        4 => 0,
-        5 => random.pick(&TOO_HIGH),
-        6 => any,
-        7..=10 => 1_024,
-        11..=13 => work + 1,
-        _ => work,
-    }
-}
-
-/// About as long as is needed, but no longer than an area may usefully be.
-fn random_length(random: &mut Random, needed: usize) -> usize {
-    let needed = needed.min(MOST_BYTES + 8);
-    match random.below(12) {
-        0..=4 => needed,
-        5..=6 => needed + 1,
-        7 => needed + random.within(2..=64),
-        8..=9 => needed - 1,
-        10 => random.below(needed),
-        _ => random.pick(&[0, 2, 22, NO_GATES - 1, NO_GATES]),
-    }
+    call(random, file)
 }

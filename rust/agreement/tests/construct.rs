@@ -1,23 +1,18 @@
 //! The construction: the model's circuits as files that the archive reads and runs, held to what
 //! the archive's evaluation answers.
 
+use agreement::compare::run::after as run;
 use agreement::drawn::{self, read, starts};
 use agreement::lent::lent;
 use agreement::program::Program;
 use agreement::random::Random;
+use agreement::seen::Seen;
 use agreement::{hex, limits, shaped, shaped_circuit};
 use model::circuit::{self, Circuit, Gate};
 use model::construct;
 
 /// The circuit file of the case [`shaped::and_of_four`], as the proved code wrote it.
 const WORKED_CASE: &str = concat!(env!("CARGO_MANIFEST_DIR"), "/../../crates/worked_case/stdout");
-
-/// The lines after the archive has run a circuit file on them.
-fn run(file: &[u8], start: &[u8]) -> Vec<u8> {
-    let (outcome, after) = lent(start, |lines| oracle::run_forwards(file, lines));
-    assert_eq!(outcome, Ok(()), "run on {start:?} {}", hex(file));
-    after
-}
 
 /// The outputs' values as the archive answers them.
 fn evaluated(file: &[u8], node_count: usize, inputs: &[u8], outputs: usize) -> Vec<u8> {
@@ -28,75 +23,16 @@ fn evaluated(file: &[u8], node_count: usize, inputs: &[u8], outputs: usize) -> V
         .collect()
 }
 
-/// What the random cases met.
-#[derive(Debug, Default)]
-struct Seen {
-    programs: u64,
-    shares: u64,
-    runs_from_zero: u64,
-    other_runs: u64,
-    /// How many values were 0, how many 1.
-    values: [u64; 2],
-    most_gates: usize,
-    most_work_lines: usize,
-    largest_size: usize,
-    deepest: usize,
-    /// Programs with a size above the number of nodes, so that one is built more than once.
-    with_shared_nodes: u64,
-    with_64_inputs_and_64_outputs: u64,
-}
-
-impl Seen {
-    fn count(&mut self, program: &model::program::Program, circuit: &Circuit) {
-        let sizes = construct::sizes(&program.nodes);
-        let largest = program.outputs.iter().map(|i| sizes[*i]).max().unwrap_or(0);
-        self.programs += 1;
-        self.shares += program.outputs.len() as u64;
-        self.most_gates = self.most_gates.max(circuit.gates.len());
-        self.most_work_lines = self.most_work_lines.max(circuit.work);
-        self.largest_size = self.largest_size.max(largest);
-        let depths = depths(&program.nodes);
-        let deepest = program.outputs.iter().map(|i| depths[*i]).max().unwrap_or(0);
-        self.deepest = self.deepest.max(deepest);
-        self.with_shared_nodes += u64::from(largest > program.nodes.len());
-        let wide = (program.inputs, program.outputs.len()) == (64, 64);
-        self.with_64_inputs_and_64_outputs += u64::from(wide);
-    }
-
-    /// Prints the run, and fails unless it met enough of everything.
-    fn finish(&self, name: &str, at_least: u64) {
-        println!("{name}: {} programs, {} shares", self.programs, self.shares);
-        println!(
-            "{name}: {} programs with shared nodes, {} with 64 inputs and 64 outputs",
-            self.with_shared_nodes, self.with_64_inputs_and_64_outputs
-        );
-        println!(
-            "{name}: at most {} gates, {} work lines, size {}, depth {}",
-            self.most_gates, self.most_work_lines, self.largest_size, self.deepest
-        );
-        assert!(self.programs >= at_least, "too few programs");
-        assert!(self.with_shared_nodes >= at_least / 10, "too few shared nodes");
-        assert!(self.with_64_inputs_and_64_outputs >= at_least / 100, "too few wide programs");
-        assert!(self.most_gates > 7_000, "no circuit with many gates");
-        assert!(self.most_work_lines > 1_000, "no circuit with many work lines");
-        assert!(self.largest_size > 5_000, "no large node");
-        assert!(self.deepest > 3_000, "no deep node");
-    }
-}
-
-/// For each node, the nodes on its longest way down to a leaf.
-fn depths(nodes: &[model::program::Node]) -> Vec<usize> {
-    use model::program::Node::{And, Input, Not, One, Xor, Zero};
-
-    let mut depths: Vec<usize> = Vec::new();
-    for node in nodes {
-        depths.push(match *node {
-            Zero | One | Input(_) => 1,
-            Not(a) => 1 + depths[a],
-            Xor(a, b) | And(a, b) => 1 + depths[a].max(depths[b]),
-        });
-    }
-    depths
+/// Prints the run, and fails unless it met enough of everything.
+fn finish(seen: &Seen, name: &str, at_least: u64) {
+    seen.print(name);
+    assert!(seen.programs >= at_least, "too few programs");
+    assert!(seen.with_shared_nodes >= at_least / 10, "too few shared nodes");
+    assert!(seen.with_64_inputs_and_64_outputs >= at_least / 100, "too few wide programs");
+    assert!(seen.most_gates > 7_000, "no circuit with many gates");
+    assert!(seen.most_work_lines > 1_000, "no circuit with many work lines");
+    assert!(seen.largest_size > 5_000, "no large node");
+    assert!(seen.deepest > 3_000, "no deep node");
 }
 
 /// Holds the lines after the shares of the first j outputs, for every j, to what 01 says of them.
@@ -106,7 +42,7 @@ fn holds(random: &mut Random, seen: &mut Seen, program: &Program) {
     let whole = construct::circuit(&program);
     let (inputs, outputs) = (whole.inputs, whole.outputs);
     let first_work_line = inputs + outputs;
-    seen.count(&program, &whole);
+    seen.program(&program, whole.gates.len(), whole.work);
 
     let starts = starts(random, &whole);
     let values: Vec<Vec<u8>> = starts
@@ -136,15 +72,13 @@ fn holds(random: &mut Random, seen: &mut Seen, program: &Program) {
                 "the targets of later outputs, {}",
                 describe()
             );
+            seen.runs(1, &start[first_work_line..], &values[..j]);
             if start[first_work_line..].contains(&1) {
-                seen.other_runs += 1;
                 continue;
             }
-            seen.runs_from_zero += 1;
             for (k, value) in values[..j].iter().enumerate() {
                 let target = inputs + k;
                 assert_eq!(after[target], start[target] ^ value, "target {k}, {}", describe());
-                seen.values[usize::from(*value)] += 1;
             }
         }
     }
@@ -186,11 +120,7 @@ fn random_programs_run() {
         let program = drawn::accepted(&mut random);
         holds(&mut random, &mut seen, &program);
     }
-    seen.finish("construct, run", 4_000);
-    println!(
-        "construct, run: {} runs with the work lines zero, {} others; {} values 0, {} values 1",
-        seen.runs_from_zero, seen.other_runs, seen.values[0], seen.values[1]
-    );
+    finish(&seen, "construct, run", 4_000);
     assert!(seen.runs_from_zero > 20_000 && seen.other_runs > 20_000, "too few runs");
     assert!(seen.values.iter().all(|count| *count > 20_000), "too few values of one kind");
 }
@@ -247,7 +177,7 @@ fn gates_of_random_programs() {
         let program = read(&drawn);
         let nodes = &program.nodes;
         let circuit = construct::circuit(&program);
-        seen.count(&program, &circuit);
+        seen.program(&program, circuit.gates.len(), circuit.work);
 
         let sizes = construct::sizes(nodes);
         let first_work_line = program.inputs + program.outputs.len();
@@ -294,7 +224,7 @@ fn gates_of_random_programs() {
         assert_eq!(circuit.gates, gates, "{}", describe());
         assert_eq!(circuit.work, most, "{}", describe());
     }
-    seen.finish("construct, gates", 4_000);
+    finish(&seen, "construct, gates", 4_000);
     println!(
         "construct, gates: size - 1 work lines in {lines_reached} shares, \
          2 size - 1 gates in {gates_reached}"

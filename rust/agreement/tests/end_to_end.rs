@@ -1,10 +1,12 @@
 //! From a program file to the lines after a run, through the archive alone: compiled, read back and
 //! run, and held to what evaluation answers, after the shares of the first j outputs for every j.
 
+use agreement::compare::run::after as run;
 use agreement::drawn::{self, read, starts};
 use agreement::lent::lent;
 use agreement::program::Program;
 use agreement::random::Random;
+use agreement::seen::Seen;
 use agreement::{hex, limits, shaped};
 use model::circuit::{Circuit, Gate};
 use model::construct;
@@ -76,42 +78,12 @@ fn compiled(random: &mut Random, program: Program) -> Compiled {
     compiled
 }
 
-/// What the runs met.
-#[derive(Default)]
-struct Seen {
-    programs: u64,
-    shares: u64,
-    runs_from_zero: u64,
-    other_runs: u64,
-    /// How many values were 0, how many 1.
-    values: [u64; 2],
-    most_lines: usize,
-    most_gates: usize,
-    /// Shares with a gate on a work line, so that there was something to clean.
-    with_work_lines: u64,
-}
-
-impl Seen {
-    fn finish(&self, name: &str) {
-        println!("{name}: {} programs, {} shares", self.programs, self.shares);
-        println!(
-            "{name}: {} runs with the work lines zero, {} others; {} values 0, {} values 1",
-            self.runs_from_zero, self.other_runs, self.values[0], self.values[1]
-        );
-        println!(
-            "{name}: at most {} lines and {} gates; {} shares write work lines",
-            self.most_lines, self.most_gates, self.with_work_lines
-        );
-        assert!(self.values.iter().all(|count| *count > 0), "values of one kind only");
-        assert!(self.with_work_lines > 0, "no work line was written");
-    }
-}
-
-/// The lines after the archive has run a circuit file on them.
-fn run(file: &[u8], start: &[u8]) -> Vec<u8> {
-    let (outcome, after) = lent(start, |lines| oracle::run_forwards(file, lines));
-    assert_eq!(outcome, Ok(()), "run on {start:?} {}", hex(file));
-    after
+/// Prints the runs, and fails where values or work lines say nothing.
+fn finish(seen: &Seen, written: u64, name: &str) {
+    seen.print(name);
+    println!("{name}: {written} shares write work lines");
+    assert!(seen.values.iter().all(|count| *count > 0), "values of one kind only");
+    assert!(written > 0, "no work line was written");
 }
 
 /// The outputs' values on the input lines, as both evaluations answer them.
@@ -171,48 +143,46 @@ fn check_start(seen: &mut Seen, compiled: &Compiled, start: &[u8]) {
     assert_eq!(model::run::forwards(&compiled.file, &mut expected), Ok(()));
     assert_eq!(before, expected, "the archive, then the model, {}", compiled.describe());
 
-    let runs = outputs as u64 + 1;
-    if start[compiled.first_work_line()..].contains(&1) {
-        seen.other_runs += runs;
-    } else {
-        seen.runs_from_zero += runs;
-        for value in values {
-            seen.values[usize::from(value)] += 1;
-        }
-    }
+    seen.runs(outputs as u64 + 1, &start[compiled.first_work_line()..], &values);
 }
 
-/// A program from its file to the lines, from many starts.
-fn holds(random: &mut Random, seen: &mut Seen, program: Program) {
+/// A program from its file to the lines, from many starts. Gives the number of shares with a gate on
+/// a work line, so that there was something to clean.
+fn holds(random: &mut Random, seen: &mut Seen, program: Program) -> u64 {
     let compiled = compiled(random, program);
     let circuit = &compiled.circuit;
-    seen.programs += 1;
-    seen.shares += circuit.outputs as u64;
-    seen.most_lines = seen.most_lines.max(circuit.lines());
-    seen.most_gates = seen.most_gates.max(circuit.gates.len());
-    let work = compiled.first_work_line();
-    let writes_work = |gate: &Gate| gate.target() >= work;
-    seen.with_work_lines += compiled
-        .shares
-        .windows(2)
-        .filter(|share| circuit.gates[share[0]..share[1]].iter().any(writes_work))
-        .count() as u64;
+    seen.program(&read(&compiled.program), circuit.gates.len(), circuit.work);
     for start in starts(random, circuit) {
         check_start(seen, &compiled, &start);
     }
+
+    let work = compiled.first_work_line();
+    let writes_work = |gate: &Gate| gate.target() >= work;
+    let written = |share: &&[usize]| circuit.gates[share[0]..share[1]].iter().any(writes_work);
+    compiled.shares.windows(2).filter(written).count() as u64
+}
+
+/// Several programs, each from its file to the lines.
+fn all_hold(name: &str, seed: u64, programs: &[Program]) -> Seen {
+    let mut random = Random::new(seed);
+    let mut seen = Seen::default();
+    let written =
+        programs.iter().map(|program| holds(&mut random, &mut seen, program.clone())).sum();
+    finish(&seen, written, name);
+    seen
 }
 
 #[test]
 fn the_examples() {
-    let mut random = Random::new(0x6578_616d);
-    let mut seen = Seen::default();
-    holds(&mut random, &mut seen, shaped::whole_case());
-    holds(&mut random, &mut seen, shaped::nor());
-    holds(&mut random, &mut seen, shaped::and_of_three());
-    holds(&mut random, &mut seen, shaped::and_of_four());
-    holds(&mut random, &mut seen, shaped::xor_with_itself());
-    holds(&mut random, &mut seen, shaped::output_zero());
-    seen.finish("end to end, examples");
+    let examples = [
+        shaped::whole_case(),
+        shaped::nor(),
+        shaped::and_of_three(),
+        shaped::and_of_four(),
+        shaped::xor_with_itself(),
+        shaped::output_zero(),
+    ];
+    all_hold("end to end, examples", 0x6578_616d, &examples);
 }
 
 /// 01's words on the whole case: from inputs 1 1 and target 1 the target ends 0; with line 3
@@ -228,16 +198,16 @@ fn the_whole_case_from_two_starts() {
 /// As wide, as long and as deep as a file can be: nobody can try all the starts.
 #[test]
 fn at_the_limits() {
-    let mut random = Random::new(0x7769_6465);
-    let mut seen = Seen::default();
-    holds(&mut random, &mut seen, limits::most_gates());
-    holds(&mut random, &mut seen, limits::most_outputs());
-    holds(&mut random, &mut seen, limits::ands(512, false));
-    holds(&mut random, &mut seen, limits::ands(512, true));
-    holds(&mut random, &mut seen, limits::most_lines());
-    holds(&mut random, &mut seen, limits::deepest());
-    holds(&mut random, &mut seen, limits::longest_file());
-    seen.finish("end to end, limits");
+    let programs = [
+        limits::most_gates(),
+        limits::most_outputs(),
+        limits::ands(512, false),
+        limits::ands(512, true),
+        limits::most_lines(),
+        limits::deepest(),
+        limits::longest_file(),
+    ];
+    let seen = all_hold("end to end, limits", 0x7769_6465, &programs);
     assert_eq!((seen.most_lines, seen.most_gates), (1_152, 8_000));
 }
 
@@ -245,13 +215,14 @@ fn at_the_limits() {
 fn random_programs() {
     let mut random = Random::new(0x656e_6432);
     let mut seen = Seen::default();
+    let mut written = 0;
     for _ in 0..3_000 {
         let program = drawn::accepted(&mut random);
-        holds(&mut random, &mut seen, program);
+        written += holds(&mut random, &mut seen, program);
     }
-    seen.finish("end to end");
+    finish(&seen, written, "end to end");
     assert!(seen.runs_from_zero > 100_000 && seen.other_runs > 50_000, "too few runs");
     assert!(seen.values.iter().all(|count| *count > 20_000), "too few values of one kind");
     assert!(seen.most_lines > 1_000 && seen.most_gates > 7_000, "no large circuit");
-    assert!(seen.with_work_lines > 10_000, "too few shares with work lines");
+    assert!(written > 10_000, "too few shares with work lines");
 }

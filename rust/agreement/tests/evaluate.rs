@@ -1,66 +1,10 @@
 //! evaluate: the archive beside the model, the value list before and after included.
 
-use agreement::lent::lent;
+use agreement::compare::evaluate::{archive, compare, drawn, model, Case};
 use agreement::program::{and, input, not, xor, Program, ONE, ZERO};
 use agreement::random::Random;
 use agreement::tally::Tally;
-use agreement::{hex, program, shaped, Outcome};
-
-/// What one call is given.
-struct Case {
-    file: Vec<u8>,
-    values: Vec<u8>,
-    inputs: Vec<u8>,
-    output: u64,
-}
-
-/// What one call gives, and the value list after it.
-type Evaluated = (Outcome<bool>, Vec<u8>);
-
-fn archive(case: &Case) -> Evaluated {
-    lent(&case.values, |values| {
-        oracle::evaluate(&case.file, values, &case.inputs, case.output)
-            .map_err(|refusal| (refusal.number, refusal.place))
-    })
-}
-
-fn model(case: &Case) -> Evaluated {
-    let mut values = case.values.clone();
-    let outcome = model::evaluate::evaluate(&case.file, &mut values, &case.inputs, case.output)
-        .map_err(|refusal| (refusal.number, refusal.place));
-    (outcome, values)
-}
-
-/// Runs both sides on a case and holds them to each other and to what a list may hold afterwards.
-fn compare(tally: &mut Tally, case: &Case) -> Outcome<bool> {
-    let describe = || {
-        format!(
-            "value list of {}, inputs {:?}, output {}, file of {}",
-            case.values.len(),
-            case.inputs,
-            case.output,
-            hex(&case.file)
-        )
-    };
-    let expected = model(case);
-    let (outcome, values) = archive(case);
-    assert_eq!(outcome, expected.0, "the archive, then the model, on {}", describe());
-    assert_eq!(values, expected.1, "the lists of archive and model, {}", describe());
-
-    match outcome {
-        Ok(bit) => {
-            let program = model::program::read(&case.file).expect("a result needs a program");
-            let count = program.nodes.len();
-            let node = program.outputs[case.output as usize];
-            assert_eq!(values[node], u8::from(bit), "the output's node, {}", describe());
-            assert!(values[..count].iter().all(|value| *value <= 1), "{}", describe());
-            assert_eq!(values[count..], case.values[count..], "{}", describe());
-        }
-        Err(_) => assert_eq!(values, case.values, "a refusal leaves the list, {}", describe()),
-    }
-    tally.count(&outcome);
-    outcome
-}
+use agreement::{program, shaped, Outcome};
 
 /// A shaped case, with the value list given and the one expected.
 fn check(
@@ -263,20 +207,14 @@ fn causes_together() {
 /// The refusals of reading come through as they are, whatever else is wrong.
 #[test]
 fn shaped_files_refused_by_the_reader() {
-    let mut refusals = 0;
-    for shaped in shaped::all() {
-        let Err(refusal) = shaped.expected else {
-            continue;
-        };
-        refusals += 1;
+    shaped::each_refused("evaluate", shaped::all(), |name, file, refusal| {
         for (length, inputs, output) in [(70_000, vec![1, 0], 0), (0, vec![2], u64::MAX)] {
-            let case = Case { file: shaped.file.clone(), values: vec![9; length], inputs, output };
+            let case = Case { file: file.to_vec(), values: vec![9; length], inputs, output };
             let expected = (Err(refusal), case.values.clone());
-            assert!(model(&case) == expected, "{}, model", shaped.name);
-            assert!(archive(&case) == expected, "{}, archive", shaped.name);
+            assert!(model(&case) == expected, "{name}, model");
+            assert!(archive(&case) == expected, "{name}, archive");
         }
-    }
-    println!("evaluate: {refusals} shaped files");
+    });
 }
 
 /// Files that the reader accepts, evaluated at their first and last output.
@@ -296,7 +234,9 @@ fn shaped_files_accepted_by_the_reader() {
                     inputs: vec![bit; program.inputs],
                     output,
                 };
-                assert!(compare(&mut tally, &case).is_ok(), "{}", shaped.name);
+                let outcome = compare(&case);
+                assert!(outcome.is_ok(), "{}", shaped.name);
+                tally.count(&outcome);
             }
         }
     }
@@ -309,8 +249,9 @@ fn random_and_damaged_cases() {
     let mut tally = Tally::new("evaluate");
     let mut bits = [0; 2];
     for _ in 0..32_000 {
-        let case = random_case(&mut random);
-        if let Ok(bit) = compare(&mut tally, &case) {
+        let outcome = compare(&random_case(&mut random));
+        tally.count(&outcome);
+        if let Ok(bit) = outcome {
             bits[usize::from(bit)] += 1;
         }
     }
@@ -323,71 +264,5 @@ fn random_and_damaged_cases() {
 fn random_case(random: &mut Random) -> Case {
     let file =
         if random.once_in(3) { program::damaged(random) } else { program::valid(random).bytes() };
-    // Of a refused file no argument is right, and any will do.
-    let (nodes, inputs, outputs) = match model::program::read(&file) {
-        Ok(program) => (program.nodes.len(), program.inputs, program.outputs.len()),
-        Err(_) => (random.within(1..=24), random.within(0..=64), 1),
-    };
-
-    let good = !random.once_in(3);
-    let values = random_values(random, nodes, good);
-    let inputs = random_inputs(random, inputs, good);
-    let output = random_output(random, outputs, good);
-    Case { file, values, inputs, output }
-}
-
-fn random_values(random: &mut Random, nodes: usize, good: bool) -> Vec<u8> {
-    let length = match random.below(if good { 4 } else { 8 }) {
-        0..=1 => nodes,
-        2 => nodes + 1,
-        3 => nodes + random.within(2..=64),
-        4 => nodes - 1,
-        5 => random.below(nodes),
-        6 => 0,
-        _ => nodes,
-    };
-    random.bytes(length)
-}
-
-fn random_inputs(random: &mut Random, count: usize, good: bool) -> Vec<u8> {
-    let mut inputs = random.bits(count);
-    if good || random.once_in(2) {
-        return inputs;
-    }
-    match random.below(5) {
-        0 => {
-            inputs.pop();
-        }
-        1 => inputs.push(0),
-        2 => inputs.clear(),
-        3 => {
-            let length = random.within(0..=130);
-            inputs = random.bits(length);
-        }
-        _ if count > 0 => {
-            let at = random.below(count);
-            inputs[at] = random.pick(&[2, 3, 128, 254, 255]);
-        }
-        _ => inputs.push(2),
-    }
-    inputs
-}
-
-fn random_output(random: &mut Random, count: usize, good: bool) -> u64 {
-    let output = random.below(count) as u64;
-    if good || random.once_in(3) {
-        return output;
-    }
-    let count = count as u64;
-    let any = random.number();
-    random.pick(&[
-        count,
-        count + 1,
-        output + (1 << 8),
-        output + (1 << 16),
-        output + (1 << 32),
-        output + (1 << 63),
-        u64::MAX,
-        any,
-    ])
+    drawn(random, file)
 }

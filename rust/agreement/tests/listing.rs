@@ -6,8 +6,7 @@ use std::fs;
 
 use agreement::listing_cases::{self, Case, GRANT, MOST_INPUT};
 use agreement::{hex, shaped};
-use model::circuit::Gate;
-use model::listing::listing;
+use model::listing::{listing, text};
 
 /// The six lines of the whole case, as 01 prints them.
 const WHOLE_CASE: &str = "lines 2 1 2 gates 5\nC 0 3\nC 1 4\nT 3 4 2\nC 1 4\nC 0 3\n";
@@ -99,15 +98,7 @@ fn archive(case: &Case) -> String {
         Ok(length) => length,
         Err(refusal) => return format!("{refusal}\n"),
     };
-    let circuit = model::circuit::read(&area[..length]).expect("what was compiled reads back");
-    let head = [circuit.inputs, circuit.outputs, circuit.work].map(|number| number.to_string());
-    let gates = circuit.gates.iter().map(|gate| match *gate {
-        Gate::Not(t) => format!("N {t}\n"),
-        Gate::Cnot(a, t) => format!("C {a} {t}\n"),
-        Gate::Toffoli(a, b, t) => format!("T {a} {b} {t}\n"),
-    });
-    let count = circuit.gates.len();
-    format!("lines {} gates {count}\n", head.join(" ")) + &gates.collect::<String>()
+    text(&model::circuit::read(&area[..length]).expect("what was compiled reads back"))
 }
 
 #[test]

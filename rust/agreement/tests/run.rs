@@ -2,58 +2,11 @@
 //! included.
 
 use agreement::circuit::{self, cnot, gate, not, toffoli, Circuit, Gate};
-use agreement::lent::lent;
+use agreement::compare::run::Direction::{self, Backwards, Forwards};
+use agreement::compare::run::{archive, compare, drawn, model};
 use agreement::random::Random;
 use agreement::tally::Tally;
-use agreement::{hex, shaped_circuit, Outcome};
-
-use Direction::{Backwards, Forwards};
-
-#[derive(Debug, Clone, Copy)]
-enum Direction {
-    Forwards,
-    Backwards,
-}
-
-/// What one call gives, and the lines after it.
-type Ran = (Outcome<()>, Vec<u8>);
-
-fn archive(direction: Direction, file: &[u8], lines: &[u8]) -> Ran {
-    let run = match direction {
-        Forwards => oracle::run_forwards,
-        Backwards => oracle::run_backwards,
-    };
-    let (ran, file_after) = lent(file, |file| {
-        lent(lines, |lines| run(file, lines).map_err(|refusal| (refusal.number, refusal.place)))
-    });
-    assert!(file_after == file, "{direction:?} wrote to the file");
-    ran
-}
-
-fn model(direction: Direction, file: &[u8], lines: &[u8]) -> Ran {
-    let run = match direction {
-        Forwards => model::run::forwards,
-        Backwards => model::run::backwards,
-    };
-    let mut lines = lines.to_vec();
-    let outcome = run(file, &mut lines).map_err(|refusal| (refusal.number, refusal.place));
-    (outcome, lines)
-}
-
-/// Runs both sides on a case and holds them to each other and to what the lines may be afterwards.
-fn compare(direction: Direction, file: &[u8], lines: &[u8]) -> Ran {
-    let describe =
-        || format!("{direction:?}, {} lines {lines:?}, file of {}", lines.len(), hex(file));
-    let expected = model(direction, file, lines);
-    let ran = archive(direction, file, lines);
-    assert_eq!(ran.0, expected.0, "the archive, then the model, {}", describe());
-    assert_eq!(ran.1, expected.1, "the lines of archive and model, {}", describe());
-    match ran.0 {
-        Ok(()) => assert!(ran.1.iter().all(|line| *line <= 1), "{}", describe()),
-        Err(_) => assert_eq!(ran.1, lines, "a refusal leaves the lines, {}", describe()),
-    }
-    ran
-}
+use agreement::{damage, hex, shaped, shaped_circuit};
 
 /// A shaped run, with the lines given and those expected.
 fn gives(name: &str, direction: Direction, circuit: &Circuit, lines: &[u8], after: &[u8]) {
@@ -192,33 +145,9 @@ fn all_of_8000_gates_run() {
 
 #[test]
 fn line_bytes() {
-    let file = shaped_circuit::whole_case().bytes();
-    for length in [0, 1, 4, 6, 64, 261, 65541] {
-        refuses(&format!("{length} lines"), &file, &vec![0; length], (13, 0));
-        refuses(&format!("{length} lines of 1"), &file, &vec![1; length], (13, 0));
+    for bad in shaped_circuit::bad_bits() {
+        refuses(&bad.name, &bad.circuit.bytes(), &bad.bits, (13, 0));
     }
-    for at in 0..5 {
-        for byte in [2, 3, 128, 254, 255] {
-            let mut lines = [1, 0, 1, 0, 1];
-            lines[at] = byte;
-            refuses(&format!("line {at} is {byte}"), &file, &lines, (13, 0));
-        }
-    }
-    refuses("all lines 255", &file, &[255; 5], (13, 0));
-
-    // Lines that no gate uses are checked all the same.
-    let unused = Circuit::new(64, 64, 1024, &[]).bytes();
-    refuses("1151 lines", &unused, &[0; 1151], (13, 0));
-    refuses("1153 lines", &unused, &[0; 1153], (13, 0));
-    for at in [0, 63, 64, 127, 128, 256, 1151] {
-        let mut lines = [0; 1152];
-        lines[at] = 2;
-        refuses(&format!("unused line {at} is 2"), &unused, &lines, (13, 0));
-    }
-    let one = shaped_circuit::nots(1).bytes();
-    refuses("no line of 1", &one, &[], (13, 0));
-    refuses("two lines of 1", &one, &[0, 0], (13, 0));
-    refuses("the only line is 2", &one, &[2], (13, 0));
 }
 
 #[test]
@@ -239,17 +168,11 @@ fn causes_together() {
 /// The refusals of reading come through as they are, whatever the lines.
 #[test]
 fn shaped_files_refused_by_the_reader() {
-    let mut refusals = 0;
-    for shaped in shaped_circuit::all() {
-        let Err(refusal) = shaped.expected else {
-            continue;
-        };
-        refusals += 1;
+    shaped::each_refused("run", shaped_circuit::all(), |name, file, refusal| {
         for lines in [vec![1, 0, 1, 0, 1], vec![1; 1152], vec![2], vec![]] {
-            refuses(&shaped.name, &shaped.file, &lines, refusal);
+            refuses(name, file, &lines, refusal);
         }
-    }
-    println!("run: {refusals} shaped files");
+    });
 }
 
 /// Files that the reader accepts, with lines all alike, at random, and one too few.
@@ -278,18 +201,14 @@ fn shaped_files_accepted_by_the_reader() {
 #[test]
 fn each_byte_of_the_whole_case_changed() {
     let mut tally = Tally::new("run, one byte changed");
-    for at in 0..shaped_circuit::WHOLE_CASE.len() {
-        for byte in 0..=255 {
-            let mut file = shaped_circuit::WHOLE_CASE;
-            file[at] = byte;
-            // As many lines as the changed file has, where it is one.
-            let count = model::circuit::read(&file).map_or(5, |circuit| circuit.lines());
-            let mut lines = vec![1; count];
-            lines[count / 2] = 0;
-            for direction in [Forwards, Backwards] {
-                tally.count(&compare(direction, &file, &lines).0);
-                tally.count(&compare(direction, &file, &[1, 1, 0, 1, 0]).0);
-            }
+    for file in damage::each_byte_changed(&shaped_circuit::WHOLE_CASE) {
+        // As many lines as the changed file has, where it is one.
+        let count = model::circuit::read(&file).map_or(5, |circuit| circuit.lines());
+        let mut lines = vec![1; count];
+        lines[count / 2] = 0;
+        for direction in [Forwards, Backwards] {
+            tally.count(&compare(direction, &file, &lines).0);
+            tally.count(&compare(direction, &file, &[1, 1, 0, 1, 0]).0);
         }
     }
     tally.finish(68 * 256 * 4, &[1, 2, 4, 12, 13]);
@@ -346,12 +265,6 @@ fn random_cases(service: &'static str, direction: Direction, other: Direction, s
 fn random_case(random: &mut Random) -> (Vec<u8>, Vec<u8>) {
     let file =
         if random.once_in(2) { circuit::damaged(random) } else { circuit::valid(random).bytes() };
-    // Of a refused file no lines are right, and any will do.
-    let count = match model::circuit::read(&file) {
-        Ok(circuit) => circuit.lines(),
-        Err(_) => random.within(0..=24),
-    };
-    let good = !random.once_in(3);
-    let lines = circuit::line_bytes(random, count, good);
+    let lines = drawn(random, &file);
     (file, lines)
 }

@@ -1,79 +1,12 @@
 //! undo: the archive beside the model, the area before and after included.
 
 use agreement::circuit::{self, cnot, gate, not, toffoli, Circuit, Gate};
-use agreement::lent::lent;
+use agreement::compare::run::after;
+use agreement::compare::undo::{archive, compare, drawn, model, Case};
+use agreement::compare::NO_GATES;
 use agreement::random::Random;
 use agreement::tally::Tally;
-use agreement::{hex, shaped_circuit, Outcome};
-
-/// The length of a circuit file without gates.
-const NO_GATES: usize = 28;
-
-/// What one call is given.
-struct Case {
-    file: Vec<u8>,
-    choices: Vec<u8>,
-    area: Vec<u8>,
-}
-
-/// What one call gives, and the area after it.
-type Undone = (Outcome<usize>, Vec<u8>);
-
-fn archive(case: &Case) -> Undone {
-    let ((undone, choices), file) = lent(&case.file, |file| {
-        lent(&case.choices, |choices| {
-            lent(&case.area, |area| {
-                oracle::undo(file, choices, area).map_err(|refusal| (refusal.number, refusal.place))
-            })
-        })
-    });
-    assert!(file == case.file, "the file was written");
-    assert!(choices == case.choices, "the choices were written");
-    undone
-}
-
-fn model(case: &Case) -> Undone {
-    let mut area = case.area.clone();
-    let outcome = model::undo::undo(&case.file, &case.choices, &mut area)
-        .map_err(|refusal| (refusal.number, refusal.place));
-    (outcome, area)
-}
-
-/// Runs both sides on a case and holds them to each other and to what an area may hold afterwards.
-fn compare(case: &Case) -> Outcome<usize> {
-    let describe = || {
-        format!(
-            "area of {}, choices {:?}, file of {}",
-            case.area.len(),
-            case.choices,
-            hex(&case.file)
-        )
-    };
-    let (expected, expected_area) = model(case);
-    let (outcome, area) = archive(case);
-    assert_eq!(outcome, expected, "the archive, then the model, {}", describe());
-    assert!(area == expected_area, "the areas of archive and model differ, {}", describe());
-    match outcome {
-        Ok(length) => {
-            assert!(area[length..] == case.area[length..], "past the file, {}", describe());
-            reads_back(case, &area[..length]);
-        }
-        Err((11, _)) => assert!(area.iter().all(|byte| *byte == 0), "11, {}", describe()),
-        Err(_) => assert!(area == case.area, "a refusal leaves the area, {}", describe()),
-    }
-    outcome
-}
-
-/// Both readers accept what was written: the head of the file, and its gates without the chosen
-/// targets, from the last to the first.
-fn reads_back(case: &Case, written: &[u8]) {
-    let mut wanted = model::circuit::read(&case.file).expect("a result needs a circuit");
-    wanted.gates.retain(|gate| case.choices[gate.target()] == 0);
-    wanted.gates.reverse();
-    let count = wanted.gates.len() as u64;
-    assert_eq!(oracle::read_circuit(written), Ok(count), "undone: {}", hex(&case.file));
-    assert!(model::circuit::read(written) == Ok(wanted), "undone: {}", hex(&case.file));
-}
+use agreement::{damage, hex, shaped, shaped_circuit, Outcome};
 
 /// A shaped case on both sides, with the area expected.
 fn check(name: &str, case: &Case, expected: Outcome<usize>, area: &[u8]) {
@@ -221,27 +154,8 @@ fn all_of_8000_gates() {
 
 #[test]
 fn choice_bytes() {
-    let file = shaped_circuit::whole_case().bytes();
-    for length in [0, 1, 4, 6, 64, 261, 65541] {
-        refuses(&format!("{length} choices"), &file, &vec![0; length], (13, 0));
-        refuses(&format!("{length} choices of 1"), &file, &vec![1; length], (13, 0));
-    }
-    for at in 0..5 {
-        for byte in [2, 3, 128, 254, 255] {
-            let mut choices = [1, 0, 1, 0, 1];
-            choices[at] = byte;
-            refuses(&format!("choice {at} is {byte}"), &file, &choices, (13, 0));
-        }
-    }
-
-    // Lines that no gate uses are checked all the same.
-    let unused = Circuit::new(64, 64, 1024, &[]).bytes();
-    refuses("1151 choices", &unused, &[0; 1151], (13, 0));
-    refuses("1153 choices", &unused, &[0; 1153], (13, 0));
-    for at in [0, 63, 64, 127, 128, 256, 1151] {
-        let mut choices = [0; 1152];
-        choices[at] = 2;
-        refuses(&format!("unused choice {at} is 2"), &unused, &choices, (13, 0));
+    for bad in shaped_circuit::bad_bits() {
+        refuses(&bad.name, &bad.circuit.bytes(), &bad.bits, (13, 0));
     }
 }
 
@@ -267,17 +181,11 @@ fn causes_together() {
 /// The refusals of reading come through as they are, whatever else is wrong.
 #[test]
 fn shaped_files_refused_by_the_reader() {
-    let mut refusals = 0;
-    for shaped in shaped_circuit::all() {
-        let Err(refusal) = shaped.expected else {
-            continue;
-        };
-        refusals += 1;
+    shaped::each_refused("undo", shaped_circuit::all(), |name, file, refusal| {
         for choices in [vec![0; 5], vec![1; 1152], vec![2], vec![]] {
-            refuses(&shaped.name, &shaped.file, &choices, refusal);
+            refuses(name, file, &choices, refusal);
         }
-    }
-    println!("undo: {refusals} shaped files");
+    });
 }
 
 /// Files that the reader accepts, with all lines chosen, none, and some, in several areas.
@@ -306,18 +214,14 @@ fn shaped_files_accepted_by_the_reader() {
 #[test]
 fn each_byte_of_the_whole_case_changed() {
     let mut tally = Tally::new("undo, one byte changed");
-    for at in 0..shaped_circuit::WHOLE_CASE.len() {
-        for byte in 0..=255 {
-            let mut file = shaped_circuit::WHOLE_CASE.to_vec();
-            file[at] = byte;
-            // As many choices as the changed file has lines, where it is one.
-            let lines = model::circuit::read(&file).map_or(5, |circuit| circuit.lines());
-            let mut choices = vec![0; lines];
-            choices[3] = 1;
-            for (choices, length) in [(choices.clone(), 68), (choices, 51), (vec![0; 5], 68)] {
-                let area = vec![9; length];
-                tally.count(&compare(&Case { file: file.clone(), choices, area }));
-            }
+    for file in damage::each_byte_changed(&shaped_circuit::WHOLE_CASE) {
+        // As many choices as the changed file has lines, where it is one.
+        let lines = model::circuit::read(&file).map_or(5, |circuit| circuit.lines());
+        let mut choices = vec![0; lines];
+        choices[3] = 1;
+        for (choices, length) in [(choices.clone(), 68), (choices, 51), (vec![0; 5], 68)] {
+            let area = vec![9; length];
+            tally.count(&compare(&Case { file: file.clone(), choices, area }));
         }
     }
     tally.finish(68 * 256 * 3, &[1, 2, 4, 11, 12, 13]);
@@ -331,19 +235,13 @@ fn undone(file: &[u8], choices: &[u8]) -> Vec<u8> {
     area
 }
 
-fn run(file: &[u8], lines: &[u8]) -> Vec<u8> {
-    let mut lines = lines.to_vec();
-    oracle::run_forwards(file, &mut lines).expect("good lines");
-    lines
-}
-
 /// 01's slip: undone in forward order, line 5 would stay 1.
 #[test]
 fn the_work_lines_of_four_inputs_are_cleaned() {
     let file = shaped_circuit::and_of_four_built().bytes();
-    let built = run(&file, &[1, 1, 1, 1, 0, 0, 0, 0, 0, 0, 0]);
+    let built = after(&file, &[1, 1, 1, 1, 0, 0, 0, 0, 0, 0, 0]);
     assert_eq!(built, [1; 11]);
-    let cleaned = run(&undone(&file, &[0, 0, 0, 0, 1, 0, 0, 0, 0, 0, 0]), &built);
+    let cleaned = after(&undone(&file, &[0, 0, 0, 0, 1, 0, 0, 0, 0, 0, 0]), &built);
     assert_eq!(cleaned, [1, 1, 1, 1, 1, 0, 0, 0, 0, 0, 0]);
 }
 
@@ -368,8 +266,8 @@ fn a_circuit_and_its_undo_move_only_chosen_lines() {
         let (circuit, choices) = controls_not_chosen(&mut random);
         let file = circuit.bytes();
         let start = random.bits(circuit.lines());
-        let between = run(&file, &start);
-        let end = run(&undone(&file, &choices), &between);
+        let between = after(&file, &start);
+        let end = after(&undone(&file, &choices), &between);
         for line in 0..start.len() {
             let moved = u32::from(between[line] != start[line]);
             if choices[line] == 1 {
@@ -399,7 +297,7 @@ fn undoing_with_no_line_chosen_reverses() {
         let start = random.bits(circuit.lines());
         let mut back = start.clone();
         oracle::run_backwards(&file, &mut back).expect("good lines");
-        assert_eq!(run(&reversed, &start), back, "{}", hex(&file));
+        assert_eq!(after(&reversed, &start), back, "{}", hex(&file));
     }
 }
 
@@ -425,41 +323,5 @@ fn random_and_damaged_cases() {
 fn random_case(random: &mut Random) -> Case {
     let file =
         if random.once_in(3) { circuit::damaged(random) } else { circuit::valid(random).bytes() };
-    let good = !random.once_in(3);
-    // Of a refused file no choices are right, and any will do.
-    let Ok(circuit) = model::circuit::read(&file) else {
-        let choices = random.bits(5);
-        let length = random.within(0..=file.len());
-        return Case { file, choices, area: random.bytes(length) };
-    };
-    let choices = random_choices(random, circuit.lines(), good);
-    let kept = circuit.gates.iter().filter(|gate| choices.get(gate.target()) != Some(&1)).count();
-    let area = random_area(random, NO_GATES + 8 * kept);
-    Case { file, choices, area }
-}
-
-fn random_choices(random: &mut Random, lines: usize, good: bool) -> Vec<u8> {
-    match random.below(6) {
-        0 => vec![0; lines],
-        1 => vec![1; lines],
-        2 => {
-            let mut choices = vec![0; lines];
-            choices[random.below(lines)] = 1;
-            choices
-        }
-        _ => circuit::line_bytes(random, lines, good),
-    }
-}
-
-/// An area about as long as is needed.
-fn random_area(random: &mut Random, needed: usize) -> Vec<u8> {
-    let length = match random.below(12) {
-        0..=4 => needed,
-        5..=6 => needed + 1,
-        7 => needed + random.within(2..=64),
-        8..=9 => needed - 1,
-        10 => random.below(needed),
-        _ => random.pick(&[0, 2, 22, NO_GATES - 1, NO_GATES]),
-    };
-    random.bytes(length)
+    drawn(random, file)
 }

@@ -22,7 +22,8 @@ fn compiled(file: &[u8], grant: u64) -> Result<Circuit, Refusal> {
     circuit::read(&area[..length])
 }
 
-fn text(circuit: &Circuit) -> String {
+/// The text for this circuit.
+pub fn text(circuit: &Circuit) -> String {
     let Circuit { inputs, outputs, work, gates } = circuit;
     let mut text = format!("lines {inputs} {outputs} {work} gates {}\n", gates.len());
     for gate in gates {

@@ -1,0 +1,64 @@
+//! Random, shaped and damaged files against every service, the archive beside the model:
+//! `cargo run --offline --release -p agreement --bin fuzz -- FILES [SEED]`.
+//!
+//! It prints how often each service gave a result and each refusal. Where the two sides differ it
+//! stops, with the file in hex. Each file has a seed of its own, SEED for the first one, one more
+//! for the next, so that `-- 1 SEED` with the seed printed tries that file again.
+
+use std::panic::{catch_unwind, AssertUnwindSafe};
+use std::process::ExitCode;
+use std::time::{Instant, SystemTime, UNIX_EPOCH};
+use std::{env, process};
+
+use agreement::fuzz::Fuzz;
+use agreement::random::Random;
+use agreement::tally::Tally;
+
+fn main() -> ExitCode {
+    let (files, seed) = arguments();
+    println!("{files} files from seed {seed}");
+    let start = Instant::now();
+    let mut fuzz = Fuzz::default();
+    for i in 0..files {
+        if !agrees(&mut fuzz, seed.wrapping_add(i)) {
+            return ExitCode::FAILURE;
+        }
+    }
+    println!("{}", Tally::heading());
+    for tally in fuzz.tallies() {
+        println!("{}", tally.row());
+    }
+    println!("No difference on {files} files, in {} s", start.elapsed().as_secs());
+    ExitCode::SUCCESS
+}
+
+/// How many files, and the seed; without one, a seed that the clock gives.
+fn arguments() -> (u64, u64) {
+    let arguments: Vec<String> = env::args().skip(1).collect();
+    let numbers: Result<Vec<u64>, _> = arguments.iter().map(|word| word.parse()).collect();
+    match numbers.as_deref() {
+        Ok([files]) => (*files, seed_from_clock()),
+        Ok([files, seed]) => (*files, *seed),
+        _ => {
+            eprintln!("usage: fuzz FILES [SEED]");
+            process::exit(1);
+        }
+    }
+}
+
+fn seed_from_clock() -> u64 {
+    let time = SystemTime::now().duration_since(UNIX_EPOCH).unwrap_or_default();
+    Random::new(time.as_nanos() as u64).number()
+}
+
+/// Tries the file of this seed, and prints it if the sides differ on it.
+fn agrees(fuzz: &mut Fuzz, seed: u64) -> bool {
+    let mut random = Random::new(seed);
+    let file = fuzz.file(&mut random);
+    let compared = catch_unwind(AssertUnwindSafe(|| fuzz.compare(&mut random, &file)));
+    if compared.is_err() {
+        println!("The sides differ on the file of seed {seed}:");
+        println!("{} bytes:{}", file.len(), agreement::digits(&file));
+    }
+    compared.is_ok()
+}

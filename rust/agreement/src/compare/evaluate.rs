@@ -1,0 +1,111 @@
+//! evaluate, the value list before and after included.
+
+use crate::lent::lent;
+use crate::random::Random;
+use crate::{circuit, hex, Outcome};
+
+/// What one call is given.
+#[derive(Debug)]
+pub struct Case {
+    /// The program file.
+    pub file: Vec<u8>,
+    /// The value list.
+    pub values: Vec<u8>,
+    /// The input bytes.
+    pub inputs: Vec<u8>,
+    /// The output's number.
+    pub output: u64,
+}
+
+/// What one call gives, and the value list after it.
+pub type Evaluated = (Outcome<bool>, Vec<u8>);
+
+/// What the archive answers.
+pub fn archive(case: &Case) -> Evaluated {
+    super::archive(&case.file, |file| {
+        lent(&case.values, |values| oracle::evaluate(file, values, &case.inputs, case.output))
+    })
+}
+
+/// What the model answers.
+pub fn model(case: &Case) -> Evaluated {
+    let mut values = case.values.clone();
+    let answer = model::evaluate::evaluate(&case.file, &mut values, &case.inputs, case.output);
+    (super::model(answer), values)
+}
+
+impl Case {
+    fn describe(&self) -> String {
+        let (length, inputs, output) = (self.values.len(), &self.inputs, self.output);
+        format!("value list of {length}, inputs {inputs:?}, output {output}, {}", hex(&self.file))
+    }
+}
+
+/// Holds both sides to each other and to what a list may hold afterwards.
+pub fn compare(case: &Case) -> Outcome<bool> {
+    let (expected, expected_values) = model(case);
+    let (outcome, values) = archive(case);
+    assert_eq!(outcome, expected, "evaluate: archive, then model, {}", case.describe());
+    assert_eq!(values, expected_values, "the lists of archive and model, {}", case.describe());
+    match outcome {
+        Ok(bit) => holds_values(case, &values, bit),
+        Err(_) => assert_eq!(values, case.values, "a refusal's list, {}", case.describe()),
+    }
+    outcome
+}
+
+/// The list starts with a bit for each node, the answer among them, and ends as it did before.
+fn holds_values(case: &Case, values: &[u8], bit: bool) {
+    let program = model::program::read(&case.file).expect("a result needs a program");
+    let count = program.nodes.len();
+    let node = program.outputs[case.output as usize];
+    assert_eq!(values[node], u8::from(bit), "the output's node, {}", case.describe());
+    assert!(values[..count].iter().all(|value| *value <= 1), "{}", case.describe());
+    assert_eq!(values[count..], case.values[count..], "past the nodes, {}", case.describe());
+}
+
+/// A random call on this file: mostly good arguments, otherwise any of them wrong.
+pub fn drawn(random: &mut Random, file: Vec<u8>) -> Case {
+    // Of a refused file no argument is right, and any will do.
+    let (nodes, inputs, outputs) = match model::program::read(&file) {
+        Ok(program) => (program.nodes.len(), program.inputs, program.outputs.len()),
+        Err(_) => (random.within(1..=24), random.within(0..=64), 1),
+    };
+    let good = !random.once_in(3);
+    let values = random_values(random, nodes, good);
+    let inputs = circuit::line_bytes(random, inputs, good);
+    let output = random_output(random, outputs, good);
+    Case { file, values, inputs, output }
+}
+
+fn random_values(random: &mut Random, nodes: usize, good: bool) -> Vec<u8> {
+    let length = match random.below(if good { 4 } else { 8 }) {
+        0..=1 => nodes,
+        2 => nodes + 1,
+        3 => nodes + random.within(2..=64),
+        4 => nodes - 1,
+        5 => random.below(nodes),
+        6 => 0,
+        _ => nodes,
+    };
+    random.bytes(length)
+}
+
+fn random_output(random: &mut Random, count: usize, good: bool) -> u64 {
+    let output = random.below(count) as u64;
+    if good || random.once_in(3) {
+        return output;
+    }
+    let count = count as u64;
+    let any = random.number();
+    random.pick(&[
+        count,
+        count + 1,
+        output + (1 << 8),
+        output + (1 << 16),
+        output + (1 << 32),
+        output + (1 << 63),
+        u64::MAX,
+        any,
+    ])
+}

@@ -1,0 +1,43 @@
+//! Each service on both sides, the archive and the model: what a call is given, what each side
+//! answers and leaves in the lent areas, and a comparison that fails where they differ.
+
+pub mod compile;
+pub mod evaluate;
+pub mod read;
+pub mod run;
+pub mod undo;
+
+use crate::lent::lent;
+use crate::Outcome;
+
+/// The length of a circuit file without gates.
+pub const NO_GATES: usize = 28;
+
+/// The length of the longest circuit file, of 8,000 gates.
+pub const MOST_BYTES: usize = 64_028;
+
+/// The outcome of a call of the archive on a file, which the call may only read.
+fn archive<T, A>(file: &[u8], call: impl FnOnce(&[u8]) -> (Answer<T>, A)) -> (Outcome<T>, A) {
+    let ((answer, areas), after) = lent(file, |file| call(file));
+    assert!(after == file, "the file was written");
+    (answer.map_err(|refusal| (refusal.number, refusal.place)), areas)
+}
+
+type Answer<T> = Result<T, oracle::Refusal>;
+
+/// The outcome of a call of the model.
+fn model<T>(answer: Result<T, model::Refusal>) -> Outcome<T> {
+    answer.map_err(|refusal| (refusal.number, refusal.place))
+}
+
+/// A random length about the one that is needed.
+fn length_about(random: &mut crate::random::Random, needed: usize) -> usize {
+    match random.below(12) {
+        0..=4 => needed,
+        5..=6 => needed + 1,
+        7 => needed + random.within(2..=64),
+        8..=9 => needed - 1,
+        10 => random.below(needed),
+        _ => random.pick(&[0, 2, 22, NO_GATES - 1, NO_GATES]),
+    }
+}

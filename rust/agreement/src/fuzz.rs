@@ -1,0 +1,109 @@
+//! Files of every kind against every service, as many as one likes.
+
+use model::construct;
+
+use crate::compare::run::Direction::{self, Backwards, Forwards};
+use crate::compare::{compile, evaluate, read, run, undo};
+use crate::random::Random;
+use crate::tally::Tally;
+use crate::{circuit, damage, drawn, limits, program, shaped, shaped_circuit};
+
+/// The services, each with what it has met.
+pub struct Fuzz {
+    shaped: Vec<Vec<u8>>,
+    tallies: [Tally; 7],
+}
+
+impl Default for Fuzz {
+    fn default() -> Fuzz {
+        let services = [
+            "read_program",
+            "evaluate",
+            "compile",
+            "read_circuit",
+            "run_forwards",
+            "run_backwards",
+            "undo",
+        ];
+        Fuzz { shaped: shaped_files(), tallies: services.map(Tally::new) }
+    }
+}
+
+impl Fuzz {
+    /// A random file: good, damaged, compiled, shaped, or shaped and damaged; of both formats.
+    pub fn file(&self, random: &mut Random) -> Vec<u8> {
+        match random.below(16) {
+            0..=1 => program::valid(random).bytes(),
+            2 => drawn::any(random).bytes(),
+            3 => drawn::large(random).bytes(),
+            4..=5 => drawn::accepted(random).bytes(),
+            6..=8 => program::damaged(random),
+            9..=10 => circuit::valid(random).bytes(),
+            11..=12 => circuit::damaged(random),
+            13 => compiled(random),
+            14 => self.shaped(random),
+            _ => {
+                let file = self.shaped(random);
+                bytes_damaged(random, file)
+            }
+        }
+    }
+
+    fn shaped(&self, random: &mut Random) -> Vec<u8> {
+        self.shaped[random.below(self.shaped.len())].clone()
+    }
+
+    /// Calls every service with this file, and fails where the two sides differ.
+    pub fn compare(&mut self, random: &mut Random, file: &[u8]) {
+        let run = |random: &mut Random, direction: Direction| {
+            run::compare(direction, file, &run::drawn(random, file)).0
+        };
+        let [program, evaluated, compiled, circuit, forwards, backwards, undone] =
+            &mut self.tallies;
+        program.count(&read::PROGRAM.compare(file));
+        evaluated.count(&evaluate::compare(&evaluate::drawn(random, file.to_vec())));
+        compiled.count(&compile::compare(&compile::drawn(random, file.to_vec())));
+        circuit.count(&read::CIRCUIT.compare(file));
+        forwards.count(&run(random, Forwards));
+        backwards.count(&run(random, Backwards));
+        undone.count(&undo::compare(&undo::drawn(random, file.to_vec())));
+    }
+
+    /// What each service has met so far.
+    pub fn tallies(&self) -> &[Tally] {
+        &self.tallies
+    }
+}
+
+/// Every file at a limit of the formats or of compiling.
+fn shaped_files() -> Vec<Vec<u8>> {
+    let limits = [
+        limits::most_gates(),
+        limits::a_gate_too_many(),
+        limits::most_outputs(),
+        limits::ands(512, false),
+        limits::ands(513, true),
+        limits::most_lines(),
+        limits::deepest(),
+        limits::longest_file(),
+    ];
+    let shaped = shaped::all().into_iter().chain(shaped_circuit::all()).map(|shaped| shaped.file);
+    shaped.chain(limits.map(|program| program.bytes())).collect()
+}
+
+/// The circuit file of a random program.
+fn compiled(random: &mut Random) -> Vec<u8> {
+    let program = drawn::accepted(random);
+    model::circuit::write(&construct::circuit(&drawn::read(&program)))
+}
+
+fn bytes_damaged(random: &mut Random, file: Vec<u8>) -> Vec<u8> {
+    if file.len() < 40 {
+        return damage::lengthened(random, file);
+    }
+    match random.below(4) {
+        0 => damage::cut_short(random, file, 32),
+        1 => damage::lengthened(random, file),
+        _ => damage::with_a_byte_changed(random, file, 36),
+    }
+}

@@ -1,0 +1,115 @@
+//! What a run of random programs has met, so that a test can fail where it was too little.
+
+use model::construct;
+use model::program::Node::{And, Input, Not, One, Xor, Zero};
+use model::program::{Node, Program};
+
+/// Counts and largest numbers of a run.
+#[derive(Debug, Default)]
+pub struct Seen {
+    /// How many programs.
+    pub programs: u64,
+    /// How many outputs of them.
+    pub shares: u64,
+    /// Programs with a size above the number of nodes, so that one is built more than once.
+    pub with_shared_nodes: u64,
+    /// Programs as wide as can be.
+    pub with_64_inputs_and_64_outputs: u64,
+    /// The most gates of a circuit.
+    pub most_gates: usize,
+    /// The most work lines of a circuit.
+    pub most_work_lines: usize,
+    /// The most lines of a circuit.
+    pub most_lines: usize,
+    /// The largest size of an output.
+    pub largest_size: usize,
+    /// The most nodes on an output's way down to a leaf.
+    pub deepest: usize,
+    /// Runs with the work lines zero at the start.
+    pub runs_from_zero: u64,
+    /// Runs with another start.
+    pub other_runs: u64,
+    /// How many values were 0, how many 1, in the runs from zero.
+    pub values: [u64; 2],
+}
+
+impl Seen {
+    /// Counts a program whose circuit has so many gates and work lines.
+    pub fn program(&mut self, program: &Program, gates: usize, work: usize) {
+        let sizes = construct::sizes(&program.nodes);
+        let depths = depths(&program.nodes);
+        let most = |of: &[usize]| program.outputs.iter().map(|i| of[*i]).max().unwrap_or(0);
+        let outputs = program.outputs.len();
+        let largest = most(&sizes);
+        self.programs += 1;
+        self.shares += outputs as u64;
+        self.with_shared_nodes += u64::from(largest > program.nodes.len());
+        self.with_64_inputs_and_64_outputs += u64::from((program.inputs, outputs) == (64, 64));
+        self.most_gates = self.most_gates.max(gates);
+        self.most_work_lines = self.most_work_lines.max(work);
+        self.most_lines = self.most_lines.max(program.inputs + outputs + work);
+        self.largest_size = self.largest_size.max(largest);
+        self.deepest = self.deepest.max(most(&depths));
+    }
+
+    /// Counts so many runs from a start with these work lines, and the values that they showed.
+    pub fn runs(&mut self, count: u64, work_lines: &[u8], values: &[u8]) {
+        if work_lines.contains(&1) {
+            self.other_runs += count;
+            return;
+        }
+        self.runs_from_zero += count;
+        for value in values {
+            self.values[usize::from(*value)] += 1;
+        }
+    }
+
+    /// Prints the run.
+    pub fn print(&self, name: &str) {
+        println!(
+            "{name}: {} programs, {} shares, {} programs with shared nodes, {} with 64 inputs and \
+             64 outputs",
+            self.programs, self.shares, self.with_shared_nodes, self.with_64_inputs_and_64_outputs
+        );
+        println!(
+            "{name}: at most {} gates, {} work lines, {} lines, size {}, depth {}",
+            self.most_gates, self.most_work_lines, self.most_lines, self.largest_size, self.deepest
+        );
+        println!(
+            "{name}: {} runs with the work lines zero, {} others; {} values 0, {} values 1",
+            self.runs_from_zero, self.other_runs, self.values[0], self.values[1]
+        );
+    }
+}
+
+/// For each node, the nodes on its longest way down to a leaf.
+fn depths(nodes: &[Node]) -> Vec<usize> {
+    let mut depths: Vec<usize> = Vec::new();
+    for node in nodes {
+        depths.push(match *node {
+            Zero | One | Input(_) => 1,
+            Not(a) => 1 + depths[a],
+            Xor(a, b) | And(a, b) => 1 + depths[a].max(depths[b]),
+        });
+    }
+    depths
+}
+
+#[cfg(test)]
+mod tests {
+    use super::*;
+
+    #[test]
+    fn programs_and_runs_are_counted() {
+        let mut seen = Seen::default();
+        let nodes = vec![Input(0), And(0, 0), Xor(1, 1), Not(0)];
+        seen.program(&Program { inputs: 1, nodes, outputs: vec![2, 3] }, 12, 4);
+        seen.program(&Program { inputs: 0, nodes: vec![One], outputs: vec![0] }, 1, 0);
+        seen.runs(3, &[0, 0], &[1, 0, 1]);
+        seen.runs(2, &[0, 1], &[1]);
+        assert_eq!((seen.programs, seen.shares, seen.with_shared_nodes), (2, 3, 1));
+        assert_eq!((seen.most_gates, seen.most_work_lines, seen.most_lines), (12, 4, 7));
+        assert_eq!((seen.largest_size, seen.deepest), (7, 3));
+        assert_eq!((seen.runs_from_zero, seen.other_runs, seen.values), (3, 2, [1, 2]));
+    }
+}

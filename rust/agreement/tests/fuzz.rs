@@ -1,0 +1,26 @@
+//! The files of the command `fuzz`: a short run meets every refusal of every service.
+
+use agreement::fuzz::Fuzz;
+use agreement::random::Random;
+
+#[test]
+fn every_refusal_is_met() {
+    let mut fuzz = Fuzz::default();
+    for seed in 0..4_000 {
+        let mut random = Random::new(seed);
+        let file = fuzz.file(&mut random);
+        fuzz.compare(&mut random, &file);
+    }
+    let refusals: [&[usize]; 7] = [
+        &[1, 2, 3, 4, 5, 6],
+        &[1, 2, 3, 4, 5, 6, 7, 14, 15],
+        &[1, 2, 3, 4, 5, 6, 7, 8, 9, 10, 11],
+        &[1, 2, 3, 4, 12],
+        &[1, 2, 3, 4, 12, 13],
+        &[1, 2, 3, 4, 12, 13],
+        &[1, 2, 3, 4, 11, 12, 13],
+    ];
+    for (tally, refusals) in fuzz.tallies().iter().zip(refusals) {
+        tally.finish(4_000, refusals);
+    }
+}

@@ -1,0 +1,116 @@
+//! read_program and read_circuit: the archive beside the model.
+
+use agreement::circuit::{self, Circuit, Gate};
+use agreement::compare::read::{Reader, CIRCUIT, PROGRAM};
+use agreement::damage::each_byte_changed;
+use agreement::random::Random;
+use agreement::shaped::Shaped;
+use agreement::tally::Tally;
+use agreement::{hex, program, shaped, shaped_circuit};
+
+/// Shaped files give what is written beside them.
+fn gives_what_is_written(reader: &Reader, files: Vec<Shaped>) {
+    for shaped in &files {
+        assert_eq!(reader.model(&shaped.file), shaped.expected, "{}, model", shaped.name);
+        assert_eq!(reader.archive(&shaped.file), shaped.expected, "{}, archive", shaped.name);
+    }
+    println!("{}: {} shaped files", reader.name, files.len());
+}
+
+#[test]
+fn shaped_programs() {
+    gives_what_is_written(&PROGRAM, shaped::all());
+}
+
+#[test]
+fn shaped_circuits() {
+    gives_what_is_written(&CIRCUIT, shaped_circuit::all());
+}
+
+/// Every one-byte change and every truncation of a small file: nothing is left to chance here.
+fn each_change(reader: &Reader, file: &[u8], refusals: &[usize]) {
+    let mut tally = Tally::new(reader.name);
+    for changed in each_byte_changed(file) {
+        tally.count(&reader.compare(&changed));
+    }
+    for length in 0..file.len() {
+        tally.count(&reader.compare(&file[..length]));
+    }
+    tally.finish(file.len() as u64 * 257, refusals);
+}
+
+#[test]
+fn each_byte_of_a_program_changed() {
+    each_change(&PROGRAM, &shaped::WHOLE_CASE, &[1, 2, 3, 4, 5, 6]);
+}
+
+/// No such change moves the border of the bodies alone, so none gives cause 3.
+#[test]
+fn each_byte_of_a_circuit_changed() {
+    each_change(&CIRCUIT, &shaped_circuit::WHOLE_CASE, &[1, 2, 4, 12]);
+}
+
+/// Good files, which the model has to accept, and damaged ones.
+fn random_and_damaged(
+    reader: &Reader,
+    seed: u64,
+    valid: fn(&mut Random) -> Vec<u8>,
+    damaged: fn(&mut Random) -> Vec<u8>,
+    refusals: &[usize],
+) {
+    let mut random = Random::new(seed);
+    let mut tally = Tally::new(reader.name);
+    for i in 0..32_000 {
+        let good = i % 4 == 0;
+        let file = if good { valid(&mut random) } else { damaged(&mut random) };
+        let outcome = reader.compare(&file);
+        assert!(!good || outcome.is_ok(), "a good file is refused: {}", hex(&file));
+        tally.count(&outcome);
+    }
+    tally.finish(20_000, refusals);
+}
+
+#[test]
+fn random_and_damaged_programs() {
+    let valid = |random: &mut Random| program::valid(random).bytes();
+    random_and_damaged(&PROGRAM, 0x7265_6164, valid, program::damaged, &[1, 2, 3, 4, 5, 6]);
+}
+
+#[test]
+fn random_and_damaged_circuits() {
+    let valid = |random: &mut Random| circuit::valid(random).bytes();
+    random_and_damaged(&CIRCUIT, 0x6369_7263, valid, circuit::damaged, &[1, 2, 3, 4, 12]);
+}
+
+/// What the model has to read from a good file with these fields.
+fn fields_read(circuit: &Circuit) -> model::circuit::Circuit {
+    let gate = |gate: &Gate| {
+        let (control, second) = (usize::from(gate.control), usize::from(gate.second));
+        let target = usize::from(gate.target);
+        match gate.kind {
+            1 => model::circuit::Gate::Not(target),
+            2 => model::circuit::Gate::Cnot(control, target),
+            _ => model::circuit::Gate::Toffoli(control, second, target),
+        }
+    };
+    model::circuit::Circuit {
+        inputs: usize::from(circuit.inputs),
+        outputs: usize::from(circuit.outputs),
+        work: usize::from(circuit.work),
+        gates: circuit.gates.iter().map(gate).collect(),
+    }
+}
+
+/// The model reads the fields that were drawn, and writes them to the same bytes.
+#[test]
+fn random_circuits_read_and_written() {
+    let mut random = Random::new(0x7772_6974);
+    for _ in 0..4_000 {
+        let circuit = circuit::valid(&mut random);
+        let file = circuit.bytes();
+        let fields = fields_read(&circuit);
+        assert!(model::circuit::read(&file) == Ok(fields.clone()), "read: {}", hex(&file));
+        assert!(model::circuit::write(&fields) == file, "written: {}", hex(&file));
+        assert_eq!(CIRCUIT.archive(&file), Ok(circuit.gates.len() as u64), "{}", hex(&file));
+    }
+}
