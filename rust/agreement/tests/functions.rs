@@ -1,0 +1,150 @@
+//! The functions of `examples/functions`: each program file is that of its table, each listing that
+//! of its program file, and each computes on bits what its name says on numbers.
+
+use std::collections::BTreeSet;
+use std::fs;
+use std::path::PathBuf;
+
+use agreement::compare::run::after;
+use agreement::listing_cases::{repository, GRANT};
+use agreement::random::Random;
+use model::listing::{listing, text};
+use table::functions::{adder, less};
+
+/// A function: its name, the number of its inputs and outputs, and its outputs as the bits of a
+/// number, the first output lowest, for its inputs as the bits of a number.
+struct Function {
+    name: &'static str,
+    inputs: usize,
+    outputs: usize,
+    value: fn(u64) -> u64,
+}
+
+const FUNCTIONS: [Function; 7] = [
+    Function { name: "and", inputs: 2, outputs: 1, value: |x| u64::from(x == 3) },
+    Function { name: "nor", inputs: 2, outputs: 1, value: |x| u64::from(x == 0) },
+    Function { name: "majority", inputs: 3, outputs: 1, value: |x| u64::from(x.count_ones() >= 2) },
+    Function { name: "full_adder", inputs: 3, outputs: 2, value: |x| u64::from(x.count_ones()) },
+    Function { name: "adder8", inputs: 16, outputs: 9, value: |x| (x & 0xff) + (x >> 8) },
+    Function { name: "adder32", inputs: 64, outputs: 33, value: |x| (x & 0xffff_ffff) + (x >> 32) },
+    Function { name: "less8", inputs: 16, outputs: 1, value: |x| u64::from((x & 0xff) < (x >> 8)) },
+];
+
+fn folder() -> PathBuf {
+    repository().join("examples/functions")
+}
+
+fn file(name: &str, extension: &str) -> Vec<u8> {
+    let path = folder().join(name).with_extension(extension);
+    fs::read(&path).unwrap_or_else(|error| panic!("{}: {error}", path.display()))
+}
+
+/// The lowest bits of a number, a byte each, the lowest first.
+fn bits(number: u64, count: usize) -> Vec<u8> {
+    (0..count).map(|at| (number >> at & 1) as u8).collect()
+}
+
+/// The circuit file that the archive compiles a program file to.
+fn compiled(program: &[u8]) -> Vec<u8> {
+    let (mut sizes, mut area) = ([0; 4_096], vec![0; 64_028]);
+    let length = oracle::compile(program, GRANT, &mut sizes, &mut area).expect("it compiles");
+    area.truncate(length);
+    area
+}
+
+/// Inputs to try: all of them where they are few, otherwise the ends and some at random.
+fn inputs_to_try(random: &mut Random, count: usize) -> Vec<u64> {
+    if count <= 3 {
+        return (0..1 << count).collect();
+    }
+    let half = count / 2;
+    let ones = u64::MAX >> (64 - count);
+    let low = u64::MAX >> (64 - half);
+    // A carry through every bit, equal numbers, and numbers that differ by one.
+    let mut numbers = vec![0, ones, low, ones ^ low, low | 1 << half, 1 | low << half];
+    for _ in 0..2_000 {
+        let (any, near) = (random.number() & low, random.below(3) as u64);
+        numbers.push(random.number() & ones);
+        numbers.push(any | (any.wrapping_add(near).wrapping_sub(1) & low) << half);
+    }
+    numbers
+}
+
+#[test]
+fn the_folder_holds_these_functions() {
+    let found: BTreeSet<String> = fs::read_dir(folder())
+        .expect("the folder of the functions")
+        .map(|entry| entry.expect("a folder that can be read").file_name())
+        .map(|name| name.into_string().expect("a name in letters"))
+        .collect();
+    let files = |function: &Function| {
+        ["table", "program", "listing"].map(|extension| format!("{}.{extension}", function.name))
+    };
+    assert_eq!(found, FUNCTIONS.iter().flat_map(files).collect());
+}
+
+#[test]
+fn the_tables_of_numbers_are_those_of_the_tool() {
+    for (name, text) in [("adder8", adder(8)), ("adder32", adder(32)), ("less8", less(8))] {
+        assert!(file(name, "table") == text.as_bytes(), "{name}: `table` writes another table");
+    }
+}
+
+#[test]
+fn program_files_are_those_of_the_tables() {
+    for Function { name, inputs, outputs, .. } in &FUNCTIONS {
+        let table = table::read(&file(name, "table"));
+        let made = table.unwrap_or_else(|fault| panic!("{name}: {fault}")).program_file();
+        assert!(made == file(name, "program"), "{name}: the table gives another file");
+        let program = model::program::read(&made).expect("a good program file");
+        assert_eq!((program.inputs, program.outputs.len()), (*inputs, *outputs), "{name}");
+    }
+}
+
+#[test]
+fn listings_are_those_of_the_program_files() {
+    for Function { name, .. } in &FUNCTIONS {
+        let program = file(name, "program");
+        let wanted = String::from_utf8(file(name, "listing")).expect("text");
+        assert!(listing(&program, GRANT) == wanted, "{name}: the model lists it otherwise");
+        let circuit = model::circuit::read(&compiled(&program)).expect("it reads back");
+        assert!(text(&circuit) == wanted, "{name}: the archive compiles it otherwise");
+        println!("{name}: {}", wanted.lines().next().expect("a first line"));
+    }
+}
+
+/// Evaluated, and compiled and run forwards: the outputs are XORed into the targets, whatever these
+/// were, and the inputs and the work lines, zero at the start, end as they started.
+#[test]
+fn each_computes_what_its_name_says() {
+    let mut random = Random::new(0x6675_6e63);
+    for function in &FUNCTIONS {
+        let program = file(function.name, "program");
+        let circuit = compiled(&program);
+        let numbers = inputs_to_try(&mut random, function.inputs);
+        for number in &numbers {
+            let expected = bits((function.value)(*number), function.outputs);
+            let inputs = bits(*number, function.inputs);
+            let name = format!("{} of {number:#x}", function.name);
+            assert_eq!(evaluated(&program, &inputs, function.outputs), expected, "{name}");
+            runs(&name, &circuit, &inputs, &expected, &random.bits(function.outputs));
+        }
+        println!("{}: {} inputs", function.name, numbers.len());
+    }
+}
+
+/// The outputs as the archive evaluates them.
+fn evaluated(program: &[u8], inputs: &[u8], outputs: usize) -> Vec<u8> {
+    let mut values = [9; 4_096];
+    (0..outputs as u64)
+        .map(|k| oracle::evaluate(program, &mut values, inputs, k).expect("it has a value"))
+        .map(u8::from)
+        .collect()
+}
+
+fn runs(name: &str, circuit: &[u8], inputs: &[u8], expected: &[u8], targets: &[u8]) {
+    let work = vec![0; model::circuit::read(circuit).expect("it reads back").work];
+    let flipped: Vec<u8> = targets.iter().zip(expected).map(|(line, bit)| line ^ bit).collect();
+    let start = [inputs, targets, &work].concat();
+    assert_eq!(after(circuit, &start), [inputs, &flipped, &work].concat(), "{name}, run");
+}
