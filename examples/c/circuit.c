@@ -1,11 +1,10 @@
 /* Links liboracle.a as a loader would: reads a small circuit file, runs it on every input forwards
  * and backwards, undoes it except on its target, and shows refusals. It exits with 1 where an answer
  * is not the one that it expects. */
-#include <stdio.h>
 #include <string.h>
 
 #include "and.h"
-#include "check.h"
+#include "and_runs.h"
 
 /* The circuit without the gate on line 2, from the last gate to the first. */
 static const uint8_t undone_circuit[] = {
@@ -19,42 +18,17 @@ static const uint8_t undone_circuit[] = {
     2, 0, 0, 0, 0, 0, 3, 0,                         /* C 0 3 */
 };
 
-enum { LENGTH = sizeof and_circuit, UNDONE = sizeof undone_circuit, LINES = 5 };
+enum { LENGTH = sizeof and_circuit, UNDONE = sizeof undone_circuit };
 
 static const uint8_t only_the_target[LINES] = {0, 0, 1, 0, 0};
 
-/* Runs forwards from a start and checks every line, then back to the start. */
-static void run(const uint8_t start[LINES], const uint8_t end[LINES])
-{
-    uint8_t lines[LINES];
-    memcpy(lines, start, LINES);
-
-    oracle_answer there = oracle_run_forwards(and_circuit, LENGTH, lines, LINES);
-    holds(there.number == 0 && there.value == 0, "the answer to a run forwards");
-    printf("%d%d%d%d%d to %d%d%d%d%d\n", start[0], start[1], start[2], start[3], start[4],
-           lines[0], lines[1], lines[2], lines[3], lines[4]);
-    holds(memcmp(lines, end, LINES) == 0, "the lines after a run forwards");
-
-    oracle_answer back = oracle_run_backwards(and_circuit, LENGTH, lines, LINES);
-    holds(back.number == 0 && back.value == 0, "the answer to a run backwards");
-    holds(memcmp(lines, start, LINES) == 0, "the lines after a run backwards");
-}
-
 static void show_runs(void)
 {
-    for (uint8_t a = 0; a < 2; a++) {
-        for (uint8_t b = 0; b < 2; b++) {
-            for (uint8_t target = 0; target < 2; target++) {
-                const uint8_t start[LINES] = {a, b, target, 0, 0};
-                const uint8_t end[LINES] = {a, b, target ^ (a & b), 0, 0};
-                run(start, end);
-            }
-        }
-    }
+    run_from_all_inputs(and_circuit, LENGTH);
 
     /* A work line that starts at 1: the target is not flipped, and the line ends as it started. */
     const uint8_t dirty[LINES] = {1, 1, 1, 1, 0};
-    run(dirty, dirty);
+    run(and_circuit, LENGTH, dirty, dirty);
 }
 
 static void show_undo(void)

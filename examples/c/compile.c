@@ -5,9 +5,9 @@
 #include <string.h>
 
 #include "and.h"
-#include "check.h"
+#include "and_runs.h"
 
-enum { PROGRAM = sizeof and_program, CIRCUIT = sizeof and_circuit, LINES = 5, NODES = 3 };
+enum { PROGRAM = sizeof and_program, CIRCUIT = sizeof and_circuit, NODES = 3 };
 
 /* The areas are longer than needed, and what is behind the last byte written has to stay. */
 enum { AREA = CIRCUIT + 4, SIZES = NODES + 1 };
@@ -28,38 +28,16 @@ static void show_circuit(const uint8_t circuit[CIRCUIT])
     show("gates", oracle_read_circuit(circuit, CIRCUIT), 0, 5);
 }
 
-/* Runs forwards from a start and checks every line. */
-static void run(const uint8_t circuit[CIRCUIT], const uint8_t start[LINES],
-                const uint8_t end[LINES])
-{
-    uint8_t lines[LINES];
-    memcpy(lines, start, LINES);
-
-    oracle_answer answer = oracle_run_forwards(circuit, CIRCUIT, lines, LINES);
-    holds(answer.number == 0 && answer.value == 0, "the answer to a run");
-    printf("%d%d%d%d%d to %d%d%d%d%d\n", start[0], start[1], start[2], start[3], start[4],
-           lines[0], lines[1], lines[2], lines[3], lines[4]);
-    holds(memcmp(lines, end, LINES) == 0, "the lines after a run");
-}
-
 static void show_runs(const uint8_t circuit[CIRCUIT])
 {
-    for (uint8_t a = 0; a < 2; a++) {
-        for (uint8_t b = 0; b < 2; b++) {
-            for (uint8_t target = 0; target < 2; target++) {
-                const uint8_t start[LINES] = {a, b, target, 0, 0};
-                const uint8_t end[LINES] = {a, b, target ^ (a & b), 0, 0};
-                run(circuit, start, end);
-            }
-        }
-    }
+    run_from_all_inputs(circuit, CIRCUIT);
 
     /* Line 3 starts at 1: another value goes into the target, but line 3 ends as it started. */
     for (uint8_t a = 0; a < 2; a++) {
         for (uint8_t b = 0; b < 2; b++) {
             const uint8_t start[LINES] = {a, b, 1, 1, 0};
             const uint8_t end[LINES] = {a, b, 1 ^ ((1 ^ a) & b), 1, 0};
-            run(circuit, start, end);
+            run(circuit, CIRCUIT, start, end);
         }
     }
 }

@@ -1,5 +1,7 @@
 //! Circuit files: written from their fields, drawn at random, and damaged.
 
+use std::ops::RangeInclusive;
+
 use crate::damage;
 use crate::layout::Layout;
 use crate::random::Random;
@@ -102,21 +104,9 @@ impl Circuit {
 
 /// A random circuit that every check accepts: all kinds, any line as target, mostly few gates.
 pub fn valid(random: &mut Random) -> Circuit {
-    let inputs = match random.below(8) {
-        0 => 64,
-        1 => random.within(0..=64),
-        _ => random.within(0..=4),
-    };
-    let outputs = match random.below(8) {
-        0 => 64,
-        1 => random.within(1..=64),
-        _ => random.within(1..=3),
-    };
-    let work = match random.below(8) {
-        0 => 1024,
-        1 => random.within(0..=1024),
-        _ => random.within(0..=4),
-    };
+    let inputs = mostly_few(random, 0..=64, 4);
+    let outputs = mostly_few(random, 1..=64, 3);
+    let work = mostly_few(random, 0..=1024, 4);
     let gate_count = match random.below(256) {
         0 => 8000,
         1 => random.within(0..=8000),
@@ -128,6 +118,15 @@ pub fn valid(random: &mut Random) -> Circuit {
     let lines = inputs + outputs + work;
     let gates: Vec<Gate> = (0..gate_count).map(|_| valid_gate(random, lines)).collect();
     Circuit::new(inputs as u16, outputs as u16, work as u16, &gates)
+}
+
+/// A number of a range, mostly of its first few, sometimes any or the last.
+fn mostly_few(random: &mut Random, range: RangeInclusive<usize>, few: usize) -> usize {
+    match random.below(8) {
+        0 => *range.end(),
+        1 => random.within(range),
+        _ => random.within(*range.start()..=few),
+    }
 }
 
 /// A random gate of a circuit with so many lines.

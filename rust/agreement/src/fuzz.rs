@@ -11,6 +11,7 @@ use crate::{circuit, damage, drawn, limits, program, shaped, shaped_circuit};
 /// The services, each with what it has met.
 pub struct Fuzz {
     shaped: Vec<Vec<u8>>,
+    at_limits: Vec<Vec<u8>>,
     tallies: [Tally; 7],
 }
 
@@ -25,7 +26,12 @@ impl Default for Fuzz {
             "run_backwards",
             "undo",
         ];
-        Fuzz { shaped: shaped_files(), tallies: services.map(Tally::new) }
+        let shaped = shaped::all().into_iter().chain(shaped_circuit::all());
+        Fuzz {
+            shaped: shaped.map(|shaped| shaped.file).collect(),
+            at_limits: programs_at_limits(),
+            tallies: services.map(Tally::new),
+        }
     }
 }
 
@@ -49,8 +55,10 @@ impl Fuzz {
         }
     }
 
+    /// A file at a limit of the formats, or of compiling.
     fn shaped(&self, random: &mut Random) -> Vec<u8> {
-        self.shaped[random.below(self.shaped.len())].clone()
+        let files = if random.once_in(4) { &self.at_limits } else { &self.shaped };
+        files[random.below(files.len())].clone()
     }
 
     /// Calls every service with this file, and fails where the two sides differ.
@@ -75,20 +83,9 @@ impl Fuzz {
     }
 }
 
-/// Every file at a limit of the formats or of compiling.
-fn shaped_files() -> Vec<Vec<u8>> {
-    let limits = [
-        limits::most_gates(),
-        limits::a_gate_too_many(),
-        limits::most_outputs(),
-        limits::ands(512, false),
-        limits::ands(513, true),
-        limits::most_lines(),
-        limits::deepest(),
-        limits::longest_file(),
-    ];
-    let shaped = shaped::all().into_iter().chain(shaped_circuit::all()).map(|shaped| shaped.file);
-    shaped.chain(limits.map(|program| program.bytes())).collect()
+fn programs_at_limits() -> Vec<Vec<u8>> {
+    let refused = [limits::a_gate_too_many(), limits::ands(513, true)];
+    limits::accepted().iter().chain(&refused).map(|program| program.bytes()).collect()
 }
 
 /// The circuit file of a random program.

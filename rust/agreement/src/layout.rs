@@ -45,6 +45,18 @@ impl Layout {
         self
     }
 
+    /// The same with a field or more changed.
+    pub fn changed(mut self, change: impl FnOnce(&mut Layout)) -> Layout {
+        change(&mut self);
+        self
+    }
+
+    /// The same with a body of another length, filled up with zeros, and a table that fits.
+    pub fn resized(mut self, body: usize, length: usize) -> Layout {
+        self.bodies[body].resize(length, 0);
+        self.fitted()
+    }
+
     /// The file.
     pub fn bytes(&self) -> Vec<u8> {
         let mut file = self.entry_count.to_le_bytes().to_vec();

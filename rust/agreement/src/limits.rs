@@ -2,6 +2,19 @@
 
 use crate::program::{and, input, not, xor, Node, Program};
 
+/// The programs here whose circuits a file can hold.
+pub fn accepted() -> Vec<Program> {
+    vec![
+        most_gates(),
+        most_outputs(),
+        ands(512, false),
+        ands(512, true),
+        most_lines(),
+        deepest(),
+        longest_file(),
+    ]
+}
+
 /// 8,000 gates on one target: node i has 2^i of them up to node 12.
 pub fn most_gates() -> Program {
     let mut nodes = vec![input(0)];

@@ -130,9 +130,14 @@ pub fn valid(random: &mut Random) -> Program {
         _ => random.within(1..=24),
     };
 
-    let nodes: Vec<Node> = (0..node_count).map(|index| valid_node(random, index, inputs)).collect();
-    let outputs: Vec<u16> = (0..output_count).map(|_| operand(random, node_count)).collect();
-    Program::new(inputs as u16, &nodes, &outputs)
+    of_size(random, inputs, output_count, node_count)
+}
+
+/// A random program of this size, with nodes of all kinds.
+pub fn of_size(random: &mut Random, inputs: usize, outputs: usize, nodes: usize) -> Program {
+    let table: Vec<Node> = (0..nodes).map(|index| valid_node(random, index, inputs)).collect();
+    let outputs: Vec<u16> = (0..outputs).map(|_| operand(random, nodes)).collect();
+    Program::new(inputs as u16, &table, &outputs)
 }
 
 fn valid_node(random: &mut Random, index: usize, inputs: usize) -> Node {

@@ -147,9 +147,7 @@ fn tables_cut_short() -> Vec<Shaped> {
 
 /// The whole case with its layout changed.
 fn laid(change: impl FnOnce(&mut Layout)) -> Vec<u8> {
-    let mut layout = whole_case().layout();
-    change(&mut layout);
-    layout.bytes()
+    whole_case().layout().changed(change).bytes()
 }
 
 fn tables() -> Vec<Shaped> {
@@ -341,20 +339,14 @@ fn sums_past_32_bits() -> Vec<Shaped> {
 
 /// The whole case with a body of another length, and a table that fits.
 fn resized(body: usize, length: usize) -> Vec<u8> {
-    let mut layout = whole_case().layout();
-    layout.bodies[body].resize(length, 0);
-    layout.fitted().bytes()
+    whole_case().layout().resized(body, length).bytes()
 }
 
 fn lengths() -> Vec<Shaped> {
     let with_outputs = |m: u16, count: usize| {
         Program::new(0, &[ONE], &vec![0; count]).with_output_count(m).bytes()
     };
-    let node_bytes = |length: usize| {
-        let mut layout = ones(4096).layout();
-        layout.bodies[1].resize(length, 0);
-        layout.fitted().bytes()
-    };
+    let node_bytes = |length: usize| ones(4096).layout().resized(1, length).bytes();
     vec![
         refused("head of 0 bytes", resized(0, 0), 3, 0),
         refused("head of 2 bytes", resized(0, 2), 3, 0),

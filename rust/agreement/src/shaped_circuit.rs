@@ -148,9 +148,7 @@ fn tables_cut_short() -> Vec<Shaped> {
 
 /// The whole case with its layout changed.
 fn laid(change: impl FnOnce(&mut Layout)) -> Vec<u8> {
-    let mut layout = whole_case().layout();
-    change(&mut layout);
-    layout.bytes()
+    whole_case().layout().changed(change).bytes()
 }
 
 /// The two bodies of the whole case.
@@ -282,9 +280,7 @@ fn sums_past_32_bits() -> Vec<Shaped> {
 
 /// The whole case with a body of another length, and a table that fits.
 fn resized(body: usize, length: usize) -> Vec<u8> {
-    let mut layout = whole_case().layout();
-    layout.bodies[body].resize(length, 0);
-    layout.fitted().bytes()
+    whole_case().layout().resized(body, length).bytes()
 }
 
 fn lengths() -> Vec<Shaped> {
@@ -312,11 +308,7 @@ fn lengths() -> Vec<Shaped> {
 }
 
 fn gate_counts() -> Vec<Shaped> {
-    let gate_bytes = |length: usize| {
-        let mut layout = nots(8000).layout();
-        layout.bodies[1].resize(length, 0);
-        layout.fitted().bytes()
-    };
+    let gate_bytes = |length: usize| nots(8000).layout().resized(1, length).bytes();
     vec![
         accepted("0 gates", nots(0).bytes(), 0),
         accepted("1 gate", nots(1).bytes(), 1),
@@ -539,31 +531,35 @@ fn causes_together() -> Vec<Shaped> {
     ]
 }
 
-/// Line or choice bytes that are refused with 13, and the circuit that they are for.
-pub struct BadBits {
-    /// What is wrong with them.
+/// A call with a circuit file and line or choice bytes that is refused.
+pub struct BadCall {
+    /// What is wrong.
     pub name: String,
-    /// The circuit.
-    pub circuit: Circuit,
+    /// The file.
+    pub file: Vec<u8>,
     /// The bytes.
     pub bits: Vec<u8>,
+    /// The refusal.
+    pub refusal: (u64, u64),
 }
 
-/// Bytes of every kind that is refused with 13.
-pub fn bad_bits() -> Vec<BadBits> {
-    [too_few_or_too_many_bits(), bytes_that_are_no_bits()].into_iter().flatten().collect()
+/// Good files with bytes of every kind that is refused with 13, and bad files with such bytes.
+pub fn bad_calls() -> Vec<BadCall> {
+    let groups = [too_few_or_too_many_bits(), bytes_that_are_no_bits(), causes_together_with_13()];
+    groups.into_iter().flatten().collect()
 }
 
-fn too_few_or_too_many_bits() -> Vec<BadBits> {
+fn too_few_or_too_many_bits() -> Vec<BadCall> {
     let lengths: [(Circuit, &[usize]); 3] = [
         (whole_case(), &[0, 1, 4, 6, 64, 261, 65541]),
         (nots(1), &[0, 2]),
         (Circuit::new(64, 64, 1024, &[]), &[1151, 1153]),
     ];
-    let bad = |circuit: &Circuit, length: usize, bit: u8| BadBits {
+    let bad = |circuit: &Circuit, length: usize, bit: u8| BadCall {
         name: format!("{length} bytes of {bit} for {} lines", circuit.lines()),
-        circuit: circuit.clone(),
+        file: circuit.bytes(),
         bits: vec![bit; length],
+        refusal: (13, 0),
     };
     let of_length = |circuit: &Circuit, length| [0, 1].map(|bit| bad(circuit, length, bit));
     lengths
@@ -572,7 +568,7 @@ fn too_few_or_too_many_bits() -> Vec<BadBits> {
         .collect()
 }
 
-fn bytes_that_are_no_bits() -> Vec<BadBits> {
+fn bytes_that_are_no_bits() -> Vec<BadCall> {
     // Lines that no gate uses are checked all the same.
     let places: [(Circuit, &[usize]); 3] = [
         (whole_case(), &[0, 1, 2, 3, 4]),
@@ -582,7 +578,8 @@ fn bytes_that_are_no_bits() -> Vec<BadBits> {
     let bad = |circuit: &Circuit, at: usize, byte: u8| {
         let mut bits: Vec<u8> = (0..circuit.lines()).map(|line| line as u8 & 1).collect();
         bits[at] = byte;
-        BadBits { name: format!("byte {at} is {byte}"), circuit: circuit.clone(), bits }
+        let name = format!("byte {at} is {byte}");
+        BadCall { name, file: circuit.bytes(), bits, refusal: (13, 0) }
     };
     let at_place = |circuit: &Circuit, at| [2, 3, 128, 254, 255].map(|byte| bad(circuit, at, byte));
     places
@@ -591,20 +588,29 @@ fn bytes_that_are_no_bits() -> Vec<BadBits> {
         .collect()
 }
 
-/// A file of 5 lines for each cause of the reader, and the refusal. Each has the faults of the later
-/// ones too, as far as it can.
-pub fn faults() -> Vec<(Vec<u8>, (u64, u64))> {
-    let bad = gate(4, 0, 0, 0);
-    let bad_range = Circuit::new(2, 1, 1025, &[bad]);
-    let mut bad_length = bad_range.layout();
-    bad_length.bodies[0].push(0);
-    vec![
+/// A file of 5 lines for each cause of the reader, with bytes that are refused with 13 as well. Each
+/// has the faults of the later ones too, as far as it can.
+fn causes_together_with_13() -> Vec<BadCall> {
+    let bad_range = Circuit::new(2, 1, 1025, &[BAD]);
+    let bad_length = bad_range.layout().resized(0, 7);
+    let faults = [
         (WHOLE_CASE[..21].to_vec(), (1, 0)),
         (WHOLE_CASE[..67].to_vec(), (2, 0)),
-        (bad_length.fitted().bytes(), (3, 0)),
+        (bad_length.bytes(), (3, 0)),
         (bad_range.bytes(), (4, 0)),
-        (Circuit::new(2, 1, 2, &[cnot(0, 3), bad]).bytes(), (12, 1)),
-    ]
+        (Circuit::new(2, 1, 2, &[cnot(0, 3), BAD]).bytes(), (12, 1)),
+    ];
+    let bad = |file: &[u8], refusal: (u64, u64), bits: &[u8]| BadCall {
+        name: format!("cause {} with {bits:?}", refusal.0),
+        file: file.to_vec(),
+        bits: bits.to_vec(),
+        refusal,
+    };
+    let all_bits: [&[u8]; 3] = [&[0, 0, 0, 0, 2], &[0, 0], &[]];
+    faults
+        .iter()
+        .flat_map(|(file, refusal)| all_bits.map(|bits| bad(file, *refusal, bits)))
+        .collect()
 }
 
 #[cfg(test)]

@@ -198,16 +198,7 @@ fn the_whole_case_from_two_starts() {
 /// As wide, as long and as deep as a file can be: nobody can try all the starts.
 #[test]
 fn at_the_limits() {
-    let programs = [
-        limits::most_gates(),
-        limits::most_outputs(),
-        limits::ands(512, false),
-        limits::ands(512, true),
-        limits::most_lines(),
-        limits::deepest(),
-        limits::longest_file(),
-    ];
-    let seen = all_hold("end to end, limits", 0x7769_6465, &programs);
+    let seen = all_hold("end to end, limits", 0x7769_6465, &limits::accepted());
     assert_eq!((seen.most_lines, seen.most_gates), (1_152, 8_000));
 }
 

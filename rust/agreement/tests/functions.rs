@@ -119,18 +119,22 @@ fn listings_are_those_of_the_program_files() {
 fn each_computes_what_its_name_says() {
     let mut random = Random::new(0x6675_6e63);
     for function in &FUNCTIONS {
-        let program = file(function.name, "program");
-        let circuit = compiled(&program);
-        let numbers = inputs_to_try(&mut random, function.inputs);
-        for number in &numbers {
-            let expected = bits((function.value)(*number), function.outputs);
-            let inputs = bits(*number, function.inputs);
-            let name = format!("{} of {number:#x}", function.name);
-            assert_eq!(evaluated(&program, &inputs, function.outputs), expected, "{name}");
-            runs(&name, &circuit, &inputs, &expected, &random.bits(function.outputs));
-        }
-        println!("{}: {} inputs", function.name, numbers.len());
+        computes(&mut random, function);
     }
+}
+
+fn computes(random: &mut Random, function: &Function) {
+    let program = file(function.name, "program");
+    let circuit = compiled(&program);
+    let numbers = inputs_to_try(random, function.inputs);
+    for number in &numbers {
+        let expected = bits((function.value)(*number), function.outputs);
+        let inputs = bits(*number, function.inputs);
+        let name = format!("{} of {number:#x}", function.name);
+        assert_eq!(evaluated(&program, &inputs, function.outputs), expected, "{name}");
+        runs(&name, &circuit, &inputs, &expected, &random.bits(function.outputs));
+    }
+    println!("{}: {} inputs", function.name, numbers.len());
 }
 
 /// The outputs as the archive evaluates them.

@@ -3,14 +3,18 @@
 use agreement::fuzz::Fuzz;
 use agreement::random::Random;
 
-#[test]
-fn every_refusal_is_met() {
+fn short_run() -> Fuzz {
     let mut fuzz = Fuzz::default();
     for seed in 0..4_000 {
         let mut random = Random::new(seed);
         let file = fuzz.file(&mut random);
         fuzz.compare(&mut random, &file);
     }
+    fuzz
+}
+
+#[test]
+fn every_refusal_is_met() {
     let refusals: [&[usize]; 7] = [
         &[1, 2, 3, 4, 5, 6],
         &[1, 2, 3, 4, 5, 6, 7, 14, 15],
@@ -20,7 +24,7 @@ fn every_refusal_is_met() {
         &[1, 2, 3, 4, 12, 13],
         &[1, 2, 3, 4, 11, 12, 13],
     ];
-    for (tally, refusals) in fuzz.tallies().iter().zip(refusals) {
+    for (tally, refusals) in short_run().tallies().iter().zip(refusals) {
         tally.finish(4_000, refusals);
     }
 }

@@ -144,23 +144,11 @@ fn all_of_8000_gates_run() {
 }
 
 #[test]
-fn line_bytes() {
-    for bad in shaped_circuit::bad_bits() {
-        refuses(&bad.name, &bad.circuit.bytes(), &bad.bits, (13, 0));
+fn line_bytes_and_causes_together() {
+    for bad in shaped_circuit::bad_calls() {
+        refuses(&bad.name, &bad.file, &bad.bits, bad.refusal);
     }
-}
-
-#[test]
-fn causes_together() {
-    let good = shaped_circuit::whole_case();
     let bad_gate = Circuit::new(2, 1, 2, &[cnot(0, 3), gate(4, 0, 0, 0)]);
-    for lines in [&[0, 0, 0, 0, 2][..], &[0, 0], &[]] {
-        let name = format!("{lines:?}");
-        refuses(&name, &good.bytes(), lines, (13, 0));
-        for (file, refusal) in shaped_circuit::faults() {
-            refuses(&name, &file, lines, refusal);
-        }
-    }
     // The first gate is good and has not run.
     refuses("12 alone", &bad_gate.bytes(), &[1, 1, 0, 0, 0], (12, 1));
 }

@@ -152,26 +152,13 @@ fn all_of_8000_gates() {
     leaves("8000 gates, all chosen", &circuit, &[0, 1, 2], &[]);
 }
 
+/// 13 comes before 11: refuses lends areas that are long enough and areas that are not.
 #[test]
-fn choice_bytes() {
-    for bad in shaped_circuit::bad_bits() {
-        refuses(&bad.name, &bad.circuit.bytes(), &bad.bits, (13, 0));
+fn choice_bytes_and_causes_together() {
+    for bad in shaped_circuit::bad_calls() {
+        refuses(&bad.name, &bad.file, &bad.bits, bad.refusal);
     }
-}
-
-/// 13 comes before 11, which is the last.
-#[test]
-fn causes_together() {
-    let good = shaped_circuit::whole_case();
     let bad_gate = Circuit::new(2, 1, 2, &[cnot(0, 3), gate(4, 0, 0, 0)]);
-    // refuses lends areas that are long enough and areas that are not.
-    for choices in [&[0, 0, 0, 0, 2][..], &[0, 0], &[]] {
-        let name = format!("{choices:?}");
-        refuses(&name, &good.bytes(), choices, (13, 0));
-        for (file, refusal) in shaped_circuit::faults() {
-            refuses(&name, &file, choices, refusal);
-        }
-    }
     refuses("12, with good choices", &bad_gate.bytes(), &[0; 5], (12, 1));
     // A gate that would be left out is checked all the same.
     let left_out = Circuit::new(2, 1, 2, &[cnot(0, 3), cnot(3, 3)]);

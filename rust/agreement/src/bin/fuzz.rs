@@ -19,10 +19,8 @@ fn main() -> ExitCode {
     println!("{files} files from seed {seed}");
     let start = Instant::now();
     let mut fuzz = Fuzz::default();
-    for i in 0..files {
-        if !agrees(&mut fuzz, seed.wrapping_add(i)) {
-            return ExitCode::FAILURE;
-        }
+    if !(0..files).all(|i| agrees(&mut fuzz, seed.wrapping_add(i))) {
+        return ExitCode::FAILURE;
     }
     println!("{}", Tally::heading());
     for tally in fuzz.tallies() {

@@ -1,11 +1,9 @@
-//! The services on circuit files as one would write them in Rust: the same checks, answers and
-//! areas, no copy of the gates, and no unsafe code.
+//! The services on circuit files.
 
-use crate::Refused;
+use super::{bodies, u16_at, Refused};
 
-const TABLE_LENGTH: usize = 22;
 const HEAD_LENGTH: usize = 6;
-const GATES_START: usize = TABLE_LENGTH + HEAD_LENGTH;
+const GATES_START: usize = 22 + HEAD_LENGTH;
 const GATE_LENGTH: usize = 8;
 const MOST_GATES: usize = 8000;
 
@@ -77,7 +75,7 @@ pub fn undo(file: &[u8], choices: &[u8], area: &mut [u8]) -> Result<usize, Refus
 }
 
 fn read(file: &[u8]) -> Result<Circuit<'_>, Refused> {
-    let (head, gates) = bodies(file)?;
+    let [head, gates] = bodies(file, 17)?;
     if head.len() != HEAD_LENGTH
         || gates.len() % GATE_LENGTH != 0
         || gates.len() > MOST_GATES * GATE_LENGTH
@@ -95,26 +93,6 @@ fn read(file: &[u8]) -> Result<Circuit<'_>, Refused> {
         Some(index) => Err((12, index as u64)),
         None => Ok(Circuit { head, gates, lines }),
     }
-}
-
-fn bodies(file: &[u8]) -> Result<(&[u8], &[u8]), Refused> {
-    if file.len() < TABLE_LENGTH || u16_at(file, 0) != 2 {
-        return Err((1, 0));
-    }
-    let entry = |at| {
-        let (start, length) = (u64::from(u32_at(file, at + 2)), u64::from(u32_at(file, at + 6)));
-        (u16_at(file, at), start, start + length)
-    };
-    let (head_tag, head_start, head_end) = entry(2);
-    let (gates_tag, gates_start, gates_end) = entry(12);
-    if (head_tag, gates_tag) != (17, 18)
-        || head_start != TABLE_LENGTH as u64
-        || gates_start != head_end
-        || gates_end != file.len() as u64
-    {
-        return Err((2, 0));
-    }
-    Ok(file[TABLE_LENGTH..].split_at(head_end as usize - TABLE_LENGTH))
 }
 
 fn is_good(gate: &[u8], lines: usize) -> bool {
@@ -135,12 +113,4 @@ fn step(gate: &[u8], lines: &mut [u8]) {
         2 => lines[t] ^= lines[a],
         _ => lines[t] ^= lines[a] & lines[b],
     }
-}
-
-fn u16_at(bytes: &[u8], at: usize) -> u16 {
-    u16::from_le_bytes([bytes[at], bytes[at + 1]])
-}
-
-fn u32_at(bytes: &[u8], at: usize) -> u32 {
-    u32::from_le_bytes([bytes[at], bytes[at + 1], bytes[at + 2], bytes[at + 3]])
 }

@@ -1,58 +1,13 @@
-//! The service compile as one would write it in Rust with the same interface: the same checks,
-//! answers and areas, nodes left in the file, no heap and no unsafe code. The construction calls
-//! itself on operands, and so does counting it.
+//! The service compile. The construction calls itself on operands, and so does counting it.
 
-use crate::Refused;
+use super::program::{read, Node, Program};
+use super::Refused;
 
-const TABLE_LENGTH: usize = 32;
-const NODE_LENGTH: usize = 6;
-const MOST_NODES: usize = 4096;
 const LARGEST_SIZE: u16 = 16_384;
 const MOST_WORK_LINES: u64 = 1024;
 const MOST_GATES: usize = 8000;
 const GATES_START: usize = 28;
 const GATE_LENGTH: usize = 8;
-
-#[derive(Clone, Copy)]
-enum Node {
-    Zero,
-    One,
-    Input(u16),
-    Not(u16),
-    Xor(u16, u16),
-    And(u16, u16),
-}
-
-/// A program whose file was accepted. The nodes stay in the file.
-struct Program<'a> {
-    inputs: u16,
-    outputs: &'a [u8],
-    nodes: &'a [u8],
-}
-
-impl<'a> Program<'a> {
-    fn node(&self, index: u16) -> Node {
-        let at = NODE_LENGTH * usize::from(index);
-        let record = &self.nodes[at..at + NODE_LENGTH];
-        let (a, b) = (u16_at(record, 2), u16_at(record, 4));
-        match record[0] {
-            0 => Node::Zero,
-            1 => Node::One,
-            2 => Node::Input(a),
-            3 => Node::Not(a),
-            4 => Node::Xor(a, b),
-            _ => Node::And(a, b),
-        }
-    }
-
-    fn outputs(&self) -> impl Iterator<Item = u16> + 'a {
-        self.outputs.chunks_exact(2).map(|record| u16_at(record, 0))
-    }
-
-    fn output_count(&self) -> u16 {
-        (self.outputs.len() / 2) as u16
-    }
-}
 
 /// Compiles a program file and gives the length of the circuit file.
 pub fn compile(
@@ -62,8 +17,7 @@ pub fn compile(
     area: &mut [u8],
 ) -> Result<usize, Refused> {
     let program = read(file)?;
-    let node_count = program.nodes.len() / NODE_LENGTH;
-    let sizes = sizes.get_mut(..node_count).ok_or((7, 0))?;
+    let sizes = sizes.get_mut(..program.node_count()).ok_or((7, 0))?;
     fill_sizes(&program, sizes);
     if let Some(k) = program.outputs().position(|i| sizes[usize::from(i)] > LARGEST_SIZE) {
         return Err((8, k as u64));
@@ -91,66 +45,6 @@ pub fn compile(
     write_start(start, &program, lines as u16, body.len() as u32);
     write_shares(&program, body);
     Ok(length)
-}
-
-fn read(file: &[u8]) -> Result<Program<'_>, Refused> {
-    let [head, nodes, outputs] = bodies(file)?;
-    if head.len() != 4 {
-        return Err((3, 0));
-    }
-    let (n, m) = (u16_at(head, 0), u16_at(head, 2));
-    let node_count = nodes.len() / NODE_LENGTH;
-    if nodes.len() % NODE_LENGTH != 0
-        || !(1..=MOST_NODES).contains(&node_count)
-        || outputs.len() != 2 * usize::from(m)
-    {
-        return Err((3, 0));
-    }
-    if n > 64 || !(1..=64).contains(&m) {
-        return Err((4, 0));
-    }
-    let mut records = nodes.chunks_exact(NODE_LENGTH).enumerate();
-    if let Some((i, _)) = records.find(|(i, record)| !is_good(record, *i as u16, n)) {
-        return Err((5, i as u64));
-    }
-    let program = Program { inputs: n, outputs, nodes };
-    if let Some(k) = program.outputs().position(|index| usize::from(index) >= node_count) {
-        return Err((6, k as u64));
-    }
-    Ok(program)
-}
-
-fn bodies(file: &[u8]) -> Result<[&[u8]; 3], Refused> {
-    if file.len() < TABLE_LENGTH || u16_at(file, 0) != 3 {
-        return Err((1, 0));
-    }
-    let (table, mut rest) = file.split_at(TABLE_LENGTH);
-    let mut at = TABLE_LENGTH as u64;
-    let mut bodies = [&[][..]; 3];
-    for ((entry, body), tag) in table[2..].chunks_exact(10).zip(&mut bodies).zip(1..) {
-        let (start, length) = (u64::from(u32_at(entry, 2)), u64::from(u32_at(entry, 6)));
-        if u16_at(entry, 0) != tag || start != at || length > rest.len() as u64 {
-            return Err((2, 0));
-        }
-        (*body, rest) = rest.split_at(length as usize);
-        at += length;
-    }
-    if rest.is_empty() {
-        Ok(bodies)
-    } else {
-        Err((2, 0))
-    }
-}
-
-fn is_good(record: &[u8], index: u16, n: u16) -> bool {
-    let (a, b) = (u16_at(record, 2), u16_at(record, 4));
-    match (record[0], record[1]) {
-        (0 | 1, 0) => a == 0 && b == 0,
-        (2, 0) => a < n && b == 0,
-        (3, 0) => a < index && b == 0,
-        (4 | 5, 0) => a < index && b < index,
-        _ => false,
-    }
 }
 
 fn fill_sizes(program: &Program, sizes: &mut [u16]) {
@@ -268,12 +162,4 @@ impl Share<'_> {
         self.gates[self.length..self.length + GATE_LENGTH].copy_from_slice(&gate);
         self.length += GATE_LENGTH;
     }
-}
-
-fn u16_at(bytes: &[u8], at: usize) -> u16 {
-    u16::from_le_bytes([bytes[at], bytes[at + 1]])
-}
-
-fn u32_at(bytes: &[u8], at: usize) -> u32 {
-    u32::from_le_bytes([bytes[at], bytes[at + 1], bytes[at + 2], bytes[at + 3]])
 }

@@ -1,0 +1,121 @@
+//! The services read_program and evaluate.
+
+use super::{bodies, u16_at, Refused};
+
+const NODE_LENGTH: usize = 6;
+const MOST_NODES: usize = 4096;
+
+#[derive(Clone, Copy)]
+pub enum Node {
+    Zero,
+    One,
+    Input(u16),
+    Not(u16),
+    Xor(u16, u16),
+    And(u16, u16),
+}
+
+/// A program whose file was accepted. The nodes stay in the file.
+pub struct Program<'a> {
+    pub inputs: u16,
+    outputs: &'a [u8],
+    nodes: &'a [u8],
+}
+
+impl<'a> Program<'a> {
+    pub fn node(&self, index: u16) -> Node {
+        let at = NODE_LENGTH * usize::from(index);
+        let record = &self.nodes[at..at + NODE_LENGTH];
+        let (a, b) = (u16_at(record, 2), u16_at(record, 4));
+        match record[0] {
+            0 => Node::Zero,
+            1 => Node::One,
+            2 => Node::Input(a),
+            3 => Node::Not(a),
+            4 => Node::Xor(a, b),
+            _ => Node::And(a, b),
+        }
+    }
+
+    pub fn node_count(&self) -> usize {
+        self.nodes.len() / NODE_LENGTH
+    }
+
+    pub fn outputs(&self) -> impl Iterator<Item = u16> + 'a {
+        self.outputs.chunks_exact(2).map(|record| u16_at(record, 0))
+    }
+
+    pub fn output_count(&self) -> u16 {
+        (self.outputs.len() / 2) as u16
+    }
+}
+
+/// Reads and checks a program file and gives its number of nodes.
+pub fn read_program(file: &[u8]) -> Result<u64, Refused> {
+    Ok(read(file)?.node_count() as u64)
+}
+
+/// Evaluates one output of a program file.
+pub fn evaluate(
+    file: &[u8],
+    values: &mut [u8],
+    inputs: &[u8],
+    output: u64,
+) -> Result<bool, Refused> {
+    let program = read(file)?;
+    let values = values.get_mut(..program.node_count()).ok_or((7, 0))?;
+    if inputs.len() != usize::from(program.inputs) || inputs.iter().any(|&byte| byte > 1) {
+        return Err((14, 0));
+    }
+    let node = program.outputs().nth(output as usize).ok_or((15, 0))?;
+    for i in 0..values.len() {
+        let value = |operand: u16| values[usize::from(operand)];
+        values[i] = match program.node(i as u16) {
+            Node::Zero => 0,
+            Node::One => 1,
+            Node::Input(j) => inputs[usize::from(j)],
+            Node::Not(a) => 1 ^ value(a),
+            Node::Xor(a, b) => value(a) ^ value(b),
+            Node::And(a, b) => value(a) & value(b),
+        };
+    }
+    Ok(values[usize::from(node)] == 1)
+}
+
+pub fn read(file: &[u8]) -> Result<Program<'_>, Refused> {
+    let [head, nodes, outputs] = bodies(file, 1)?;
+    if head.len() != 4 {
+        return Err((3, 0));
+    }
+    let (n, m) = (u16_at(head, 0), u16_at(head, 2));
+    let node_count = nodes.len() / NODE_LENGTH;
+    if nodes.len() % NODE_LENGTH != 0
+        || !(1..=MOST_NODES).contains(&node_count)
+        || outputs.len() != 2 * usize::from(m)
+    {
+        return Err((3, 0));
+    }
+    if n > 64 || !(1..=64).contains(&m) {
+        return Err((4, 0));
+    }
+    let mut records = nodes.chunks_exact(NODE_LENGTH).enumerate();
+    if let Some((i, _)) = records.find(|(i, record)| !is_good(record, *i as u16, n)) {
+        return Err((5, i as u64));
+    }
+    let program = Program { inputs: n, outputs, nodes };
+    if let Some(k) = program.outputs().position(|index| usize::from(index) >= node_count) {
+        return Err((6, k as u64));
+    }
+    Ok(program)
+}
+
+fn is_good(record: &[u8], index: u16, n: u16) -> bool {
+    let (a, b) = (u16_at(record, 2), u16_at(record, 4));
+    match (record[0], record[1]) {
+        (0 | 1, 0) => a == 0 && b == 0,
+        (2, 0) => a < n && b == 0,
+        (3, 0) => a < index && b == 0,
+        (4 | 5, 0) => a < index && b < index,
+        _ => false,
+    }
+}

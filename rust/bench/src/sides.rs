@@ -1,0 +1,99 @@
+//! The two sides, and that they do the same job.
+
+use std::fmt::Debug;
+
+use agreement::compare::{compile, evaluate, run, undo};
+use agreement::fuzz::Fuzz;
+use agreement::random::Random;
+
+use crate::idiomatic::{self, Refused};
+
+type Read = fn(&[u8]) -> Result<u64, Refused>;
+type Evaluate = fn(&[u8], &mut [u8], &[u8], u64) -> Result<bool, Refused>;
+type Compile = fn(&[u8], u64, &mut [u16], &mut [u8]) -> Result<usize, Refused>;
+type Run = fn(&[u8], &mut [u8]) -> Result<(), Refused>;
+type Undo = fn(&[u8], &[u8], &mut [u8]) -> Result<usize, Refused>;
+
+/// The services of one side.
+pub struct Side {
+    pub read_program: Read,
+    pub evaluate: Evaluate,
+    pub compile: Compile,
+    pub read_circuit: Read,
+    pub run_forwards: Run,
+    pub run_backwards: Run,
+    pub undo: Undo,
+}
+
+/// The archive, through its wrapper.
+pub const ARCHIVE: Side = Side {
+    read_program: |file| oracle::read_program(file).map_err(numbers),
+    evaluate: |file, values, inputs, output| {
+        oracle::evaluate(file, values, inputs, output).map_err(numbers)
+    },
+    compile: |file, grant, sizes, area| oracle::compile(file, grant, sizes, area).map_err(numbers),
+    read_circuit: |file| oracle::read_circuit(file).map_err(numbers),
+    run_forwards: |file, lines| oracle::run_forwards(file, lines).map_err(numbers),
+    run_backwards: |file, lines| oracle::run_backwards(file, lines).map_err(numbers),
+    undo: |file, choices, area| oracle::undo(file, choices, area).map_err(numbers),
+};
+
+/// Idiomatic Rust.
+pub const RUST: Side = Side {
+    read_program: idiomatic::program::read_program,
+    evaluate: idiomatic::program::evaluate,
+    compile: idiomatic::compile::compile,
+    read_circuit: idiomatic::circuit::read_circuit,
+    run_forwards: idiomatic::circuit::run_forwards,
+    run_backwards: idiomatic::circuit::run_backwards,
+    undo: idiomatic::circuit::undo,
+};
+
+fn numbers(refusal: oracle::Refusal) -> Refused {
+    (refusal.number, refusal.place)
+}
+
+/// Stops unless both sides answer alike on random files, refusals and areas included: otherwise
+/// they would not do the same job.
+pub fn agree(random: &mut Random, files: usize) {
+    let fuzz = Fuzz::default();
+    for _ in 0..files {
+        let file = fuzz.file(random);
+        agree_on(random, &file);
+    }
+    println!("Both sides answer alike on {files} files, each given to all seven services.");
+}
+
+/// The same for one file.
+pub fn agree_on(random: &mut Random, file: &[u8]) {
+    let evaluated = evaluate::drawn(random, file.to_vec());
+    let compiled = compile::drawn(random, file.to_vec());
+    let lines = run::drawn(random, file);
+    let undone = undo::drawn(random, file.to_vec());
+
+    same(file, "read_program", |side| (side.read_program)(file));
+    same(file, "read_circuit", |side| (side.read_circuit)(file));
+    same(file, "evaluate", |side| {
+        let mut values = evaluated.values.clone();
+        ((side.evaluate)(file, &mut values, &evaluated.inputs, evaluated.output), values)
+    });
+    same(file, "compile", |side| {
+        let (mut sizes, mut area) = (compiled.sizes.clone(), compiled.area.clone());
+        ((side.compile)(file, compiled.grant, &mut sizes, &mut area), sizes, area)
+    });
+    same(file, "run", |side| {
+        let (mut there, mut back) = (lines.clone(), lines.clone());
+        let answers =
+            ((side.run_forwards)(file, &mut there), (side.run_backwards)(file, &mut back));
+        (answers, there, back)
+    });
+    same(file, "undo", |side| {
+        let mut area = undone.area.clone();
+        ((side.undo)(file, &undone.choices, &mut area), area)
+    });
+}
+
+fn same<T: PartialEq + Debug>(file: &[u8], service: &str, answer: impl Fn(&Side) -> T) {
+    let alike = answer(&ARCHIVE) == answer(&RUST);
+    assert!(alike, "{service}: liboracle.a and Rust differ on {}", agreement::hex(file));
+}
