@@ -23,17 +23,34 @@ pub const WHOLE_CASE: [u8; 56] = [
     0x05, 0x00, 0x00, 0x00, 0x01, 0x00, 0x02, 0x00,
 ];
 
+/// A node that no check of nodes accepts.
+const BAD: Node = node(6, 0, 0);
+
 /// Every shaped file.
 pub fn all() -> Vec<Shaped> {
     let groups = [
         accepted_programs(),
         tables_cut_short(),
-        tables(),
+        entry_counts(),
+        tags(),
+        starts(),
+        ends(),
+        bodies_apart(),
+        bodies_overlapping(),
+        bodies_in_another_order(),
         sums_past_32_bits(),
-        lengths(),
+        head_and_node_lengths(),
+        output_lengths(),
         ranges(),
-        nodes(),
+        kinds_and_zero_bytes(),
+        unused_fields(),
+        operands_of_not_and_xor(),
+        operands_of_and(),
+        first_and_last_nodes(),
+        input_numbers(),
+        lowest_bad_nodes(),
         outputs(),
+        all_causes_together(),
         causes_together(),
     ];
     groups.into_iter().flatten().collect()
@@ -150,10 +167,13 @@ fn laid(change: impl FnOnce(&mut Layout)) -> Vec<u8> {
     whole_case().layout().changed(change).bytes()
 }
 
-fn tables() -> Vec<Shaped> {
-    let [head, nodes, outputs]: [Vec<u8>; 3] =
-        whole_case().layout().bodies.try_into().expect("three");
+/// The three bodies of the whole case.
+fn bodies() -> [Vec<u8>; 3] {
+    whole_case().layout().bodies.try_into().expect("three")
+}
 
+fn entry_counts() -> Vec<Shaped> {
+    let [head, nodes, outputs] = bodies();
     vec![
         refused("entry count 0", laid(|l| l.entry_count = 0), 1, 0),
         refused("entry count 1", laid(|l| l.entry_count = 1), 1, 0),
@@ -181,7 +201,11 @@ fn tables() -> Vec<Shaped> {
             1,
             0,
         ),
-        // tags
+    ]
+}
+
+fn tags() -> Vec<Shaped> {
+    vec![
         refused("first tag 0", laid(|l| l.entries[0].tag = 0), 2, 0),
         refused("first tag 2", laid(|l| l.entries[0].tag = 2), 2, 0),
         refused("first tag 17", laid(|l| l.entries[0].tag = 17), 2, 0),
@@ -194,7 +218,11 @@ fn tables() -> Vec<Shaped> {
         refused("third tag 4", laid(|l| l.entries[2].tag = 4), 2, 0),
         refused("third tag 259", laid(|l| l.entries[2].tag = 259), 2, 0),
         refused("third tag 65535", laid(|l| l.entries[2].tag = 65535), 2, 0),
-        // starts
+    ]
+}
+
+fn starts() -> Vec<Shaped> {
+    vec![
         refused("first start 0", laid(|l| l.entries[0].start = 0), 2, 0),
         refused("first start 31", laid(|l| l.entries[0].start = 31), 2, 0),
         refused("first start 33", laid(|l| l.entries[0].start = 33), 2, 0),
@@ -209,7 +237,12 @@ fn tables() -> Vec<Shaped> {
         refused("third start 53", laid(|l| l.entries[2].start = 53), 2, 0),
         refused("third start 55", laid(|l| l.entries[2].start = 55), 2, 0),
         refused("third start past the file", laid(|l| l.entries[2].start = 0xffff_ffff), 2, 0),
-        // lengths that move an end
+    ]
+}
+
+/// Lengths that move an end.
+fn ends() -> Vec<Shaped> {
+    vec![
         refused("first body short", laid(|l| l.entries[0].length = 3), 2, 0),
         refused("first body long", laid(|l| l.entries[0].length = 5), 2, 0),
         refused("second body short", laid(|l| l.entries[1].length = 17), 2, 0),
@@ -217,7 +250,12 @@ fn tables() -> Vec<Shaped> {
         refused("third body short", laid(|l| l.entries[2].length = 1), 2, 0),
         refused("third body long", laid(|l| l.entries[2].length = 3), 2, 0),
         refused("third body empty", laid(|l| l.entries[2].length = 0), 2, 0),
-        // bodies that are not side by side
+    ]
+}
+
+/// Bodies that are not side by side.
+fn bodies_apart() -> Vec<Shaped> {
+    vec![
         refused(
             "a gap before the first body",
             laid(|l| {
@@ -249,6 +287,11 @@ fn tables() -> Vec<Shaped> {
             0,
         ),
         refused("a byte at the end", laid(|l| l.bodies.push(vec![0])), 2, 0),
+    ]
+}
+
+fn bodies_overlapping() -> Vec<Shaped> {
+    vec![
         // Read so, the nodes would be ZERO, INPUT 1 and AND 0 1.
         refused(
             "a second body that overlaps the first",
@@ -279,6 +322,12 @@ fn tables() -> Vec<Shaped> {
             2,
             0,
         ),
+    ]
+}
+
+fn bodies_in_another_order() -> Vec<Shaped> {
+    let [head, nodes, outputs] = bodies();
+    vec![
         refused(
             "bodies in another order, each entry pointing to its own",
             {
@@ -342,10 +391,7 @@ fn resized(body: usize, length: usize) -> Vec<u8> {
     whole_case().layout().resized(body, length).bytes()
 }
 
-fn lengths() -> Vec<Shaped> {
-    let with_outputs = |m: u16, count: usize| {
-        Program::new(0, &[ONE], &vec![0; count]).with_output_count(m).bytes()
-    };
+fn head_and_node_lengths() -> Vec<Shaped> {
     let node_bytes = |length: usize| ones(4096).layout().resized(1, length).bytes();
     vec![
         refused("head of 0 bytes", resized(0, 0), 3, 0),
@@ -368,6 +414,14 @@ fn lengths() -> Vec<Shaped> {
         refused("4097 nodes", ones(4097).bytes(), 3, 0),
         refused("65536 nodes", ones(65536).bytes(), 3, 0),
         refused("65537 nodes, 1 in 16 bits", ones(65537).bytes(), 3, 0),
+    ]
+}
+
+fn output_lengths() -> Vec<Shaped> {
+    let with_outputs = |m: u16, count: usize| {
+        Program::new(0, &[ONE], &vec![0; count]).with_output_count(m).bytes()
+    };
+    vec![
         refused("output body of 0 bytes", resized(2, 0), 3, 0),
         refused("output body of 1 byte", resized(2, 1), 3, 0),
         refused("output body of 3 bytes", resized(2, 3), 3, 0),
@@ -428,11 +482,8 @@ fn at_4095(last: Node) -> Vec<u8> {
     Program::new(64, &nodes, &[4095]).bytes()
 }
 
-fn nodes() -> Vec<Shaped> {
-    let program = |n: u16, nodes: &[Node]| Program::new(n, nodes, &[0]).bytes();
-    let bad = node(6, 0, 0);
+fn kinds_and_zero_bytes() -> Vec<Shaped> {
     vec![
-        // kinds
         accepted("ZERO", at_3(ZERO), 5),
         accepted("ONE", at_3(ONE), 5),
         accepted("INPUT", at_3(input(0)), 5),
@@ -443,7 +494,6 @@ fn nodes() -> Vec<Shaped> {
         refused("kind 7", at_3(node(7, 0, 0)), 5, 3),
         refused("kind 128", at_3(node(128, 0, 0)), 5, 3),
         refused("kind 255", at_3(node(255, 0, 0)), 5, 3),
-        // zero byte
         refused("ZERO, zero byte 1", at_3(ZERO.with_zero_byte(1)), 5, 3),
         refused("ONE, zero byte 1", at_3(ONE.with_zero_byte(1)), 5, 3),
         refused("INPUT, zero byte 1", at_3(input(0).with_zero_byte(1)), 5, 3),
@@ -452,7 +502,11 @@ fn nodes() -> Vec<Shaped> {
         refused("AND, zero byte 1", at_3(and(0, 1).with_zero_byte(1)), 5, 3),
         refused("zero byte 128", at_3(ZERO.with_zero_byte(128)), 5, 3),
         refused("zero byte 255", at_3(xor(0, 1).with_zero_byte(255)), 5, 3),
-        // unused fields
+    ]
+}
+
+fn unused_fields() -> Vec<Shaped> {
+    vec![
         refused("ZERO, a 1", at_3(node(0, 1, 0)), 5, 3),
         refused("ZERO, a 256", at_3(node(0, 256, 0)), 5, 3),
         refused("ZERO, b 1", at_3(node(0, 0, 1)), 5, 3),
@@ -465,7 +519,11 @@ fn nodes() -> Vec<Shaped> {
         refused("INPUT, b 256", at_3(node(2, 0, 256)), 5, 3),
         refused("NOT, b 1", at_3(node(3, 0, 1)), 5, 3),
         refused("NOT, b 256", at_3(node(3, 0, 256)), 5, 3),
-        // operands
+    ]
+}
+
+fn operands_of_not_and_xor() -> Vec<Shaped> {
+    vec![
         accepted("NOT of the node before", at_3(not(2)), 5),
         refused("NOT of itself", at_3(not(3)), 5, 3),
         refused("NOT of the node after", at_3(not(4)), 5, 3),
@@ -484,6 +542,11 @@ fn nodes() -> Vec<Shaped> {
         refused("XOR, b 256", at_3(xor(0, 256)), 5, 3),
         accepted("XOR of a node with itself", at_3(xor(2, 2)), 5),
         refused("XOR, both itself", at_3(xor(3, 3)), 5, 3),
+    ]
+}
+
+fn operands_of_and() -> Vec<Shaped> {
+    vec![
         accepted("AND, a the node before", at_3(and(2, 0)), 5),
         refused("AND, a itself", at_3(and(3, 0)), 5, 3),
         refused("AND, a the node after", at_3(and(4, 0)), 5, 3),
@@ -496,19 +559,28 @@ fn nodes() -> Vec<Shaped> {
         refused("AND, b 256", at_3(and(0, 256)), 5, 3),
         accepted("AND of a node with itself", at_3(and(2, 2)), 5),
         refused("AND, both itself", at_3(and(3, 3)), 5, 3),
-        // the first and the last node
+    ]
+}
+
+fn first_and_last_nodes() -> Vec<Shaped> {
+    vec![
         accepted("INPUT as node 0", at_0(input(1)), 1),
         refused("NOT as node 0", at_0(not(0)), 5, 0),
         refused("XOR as node 0", at_0(xor(0, 0)), 5, 0),
         refused("AND as node 0", at_0(and(0, 0)), 5, 0),
-        refused("kind 6 as node 0", at_0(bad), 5, 0),
+        refused("kind 6 as node 0", at_0(BAD), 5, 0),
         accepted("node 4095, XOR of 4094", at_4095(xor(4094, 4094)), 4096),
         refused("node 4095, NOT of itself", at_4095(not(4095)), 5, 4095),
         refused("node 4095, XOR, a itself", at_4095(xor(4095, 0)), 5, 4095),
         refused("node 4095, AND, b itself", at_4095(and(0, 4095)), 5, 4095),
         refused("node 4095, AND, b 4096", at_4095(and(0, 4096)), 5, 4095),
-        refused("node 4095, kind 6", at_4095(bad), 5, 4095),
-        // input numbers
+        refused("node 4095, kind 6", at_4095(BAD), 5, 4095),
+    ]
+}
+
+fn input_numbers() -> Vec<Shaped> {
+    let program = |n: u16, nodes: &[Node]| Program::new(n, nodes, &[0]).bytes();
+    vec![
         accepted("INPUT n - 1", at_3(input(1)), 5),
         refused("INPUT n", at_3(input(2)), 5, 3),
         refused("INPUT n + 1", at_3(input(3)), 5, 3),
@@ -525,12 +597,17 @@ fn nodes() -> Vec<Shaped> {
             3,
         ),
         accepted("an INPUT twice", program(1, &[input(0), input(0)]), 2),
-        // the lowest bad node
-        refused("nodes 0 and 1 bad", program(2, &[bad, bad, ONE]), 5, 0),
-        refused("nodes 1 and 2 bad", program(2, &[ONE, bad, bad]), 5, 1),
-        refused("nodes 0 and 2 bad", program(2, &[bad, ONE, bad]), 5, 0),
-        refused("all nodes bad", program(2, &[bad; 4]), 5, 0),
-        refused("an operand at 1, then a kind at 2", program(2, &[ONE, not(1), bad]), 5, 1),
+    ]
+}
+
+fn lowest_bad_nodes() -> Vec<Shaped> {
+    let program = |n: u16, nodes: &[Node]| Program::new(n, nodes, &[0]).bytes();
+    vec![
+        refused("nodes 0 and 1 bad", program(2, &[BAD, BAD, ONE]), 5, 0),
+        refused("nodes 1 and 2 bad", program(2, &[ONE, BAD, BAD]), 5, 1),
+        refused("nodes 0 and 2 bad", program(2, &[BAD, ONE, BAD]), 5, 0),
+        refused("all nodes bad", program(2, &[BAD; 4]), 5, 0),
+        refused("an operand at 1, then a kind at 2", program(2, &[ONE, not(1), BAD]), 5, 1),
         refused(
             "an input at 1, then a zero byte at 2, then an unused field at 3",
             program(2, &[ONE, input(2), ONE.with_zero_byte(1), node(0, 1, 0)]),
@@ -575,8 +652,8 @@ fn outputs() -> Vec<Shaped> {
     ]
 }
 
-/// Files with several causes: the lowest number is given.
-fn causes_together() -> Vec<Shaped> {
+/// A file with every cause from each on: the lowest number is given.
+fn all_causes_together() -> Vec<Shaped> {
     let bad_node = Program::new(2, &[ONE, not(1)], &[0]);
     let bad_node_and_output = Program::new(2, &[ONE, not(1)], &[0, 2]);
     let mut bad_range = bad_node_and_output.clone();
@@ -587,17 +664,6 @@ fn causes_together() -> Vec<Shaped> {
     bad_contents.entries[2].tag = 4;
     let mut bad_table = bad_contents.clone();
     bad_table.entry_count = 4;
-
-    let no_outputs = Program::new(2, &[ONE, not(1)], &[]);
-    let too_many_nodes = Program::new(65, &[node(6, 0, 0); 4097], &[4097]);
-    let head_of_3_bytes = |m: u8| {
-        let mut layout = bad_node_and_output.layout();
-        layout.bodies[0] = vec![65, 0, m];
-        layout.fitted()
-    };
-    let mut short_head_and_bad_end = head_of_3_bytes(2);
-    short_head_and_bad_end.bodies[2].push(0);
-
     vec![
         refused("1 to 6 together", bad_table.bytes(), 1, 0),
         refused("2 to 6 together", bad_contents.bytes(), 2, 0),
@@ -605,6 +671,22 @@ fn causes_together() -> Vec<Shaped> {
         refused("4 to 6 together", bad_range.bytes(), 4, 0),
         refused("5 and 6 together", bad_node_and_output.bytes(), 5, 1),
         refused("5 alone", bad_node.bytes(), 5, 1),
+    ]
+}
+
+/// Files with two causes or more: the lowest number is given.
+fn causes_together() -> Vec<Shaped> {
+    let no_outputs = Program::new(2, &[ONE, not(1)], &[]);
+    let too_many_nodes = Program::new(65, &[BAD; 4097], &[4097]);
+    let head_of_3_bytes = |m: u8| {
+        let mut layout = Program::new(2, &[ONE, not(1)], &[0, 2]).layout();
+        layout.bodies[0] = vec![65, 0, m];
+        layout.fitted()
+    };
+    let mut short_head_and_bad_end = head_of_3_bytes(2);
+    short_head_and_bad_end.bodies[2].push(0);
+
+    vec![
         refused(
             "1 and 2: count 2, first tag wrong",
             laid(|l| {

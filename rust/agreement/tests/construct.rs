@@ -40,47 +40,47 @@ fn holds(random: &mut Random, seen: &mut Seen, program: &Program) {
     let file = program.bytes();
     let program = read(program);
     let whole = construct::circuit(&program);
-    let (inputs, outputs) = (whole.inputs, whole.outputs);
-    let first_work_line = inputs + outputs;
     seen.program(&program, whole.gates.len(), whole.work);
-
-    let starts = starts(random, &whole);
-    let values: Vec<Vec<u8>> = starts
-        .iter()
-        .map(|start| evaluated(&file, program.nodes.len(), &start[..inputs], outputs))
+    let nodes = program.nodes.len();
+    let runs: Vec<Run> = starts(random, &whole)
+        .into_iter()
+        .map(|start| Run {
+            values: evaluated(&file, nodes, &start[..whole.inputs], whole.outputs),
+            start,
+        })
         .collect();
-    for j in 0..=outputs {
+    for j in 0..=whole.outputs {
         let first = Circuit { gates: construct::shares(&program, j), ..whole };
         assert!(whole.gates.starts_with(&first.gates), "{j} shares of {}", hex(&file));
-        assert!(j < outputs || first == whole, "all shares of {}", hex(&file));
-        let circuit_file = circuit::write(&first);
-        let gate_count = first.gates.len() as u64;
-        assert_eq!(oracle::read_circuit(&circuit_file), Ok(gate_count), "{}", hex(&circuit_file));
-        for (start, values) in starts.iter().zip(&values) {
-            let after = run(&circuit_file, start);
-            let describe = || format!("{j} shares from {start:?}, program of {}", hex(&file));
-            assert_eq!(after[..inputs], start[..inputs], "the inputs, {}", describe());
-            assert_eq!(
-                after[first_work_line..],
-                start[first_work_line..],
-                "the work lines, {}",
-                describe()
-            );
-            assert_eq!(
-                after[inputs + j..first_work_line],
-                start[inputs + j..first_work_line],
-                "the targets of later outputs, {}",
-                describe()
-            );
-            seen.runs(1, &start[first_work_line..], &values[..j]);
-            if start[first_work_line..].contains(&1) {
-                continue;
-            }
-            for (k, value) in values[..j].iter().enumerate() {
-                let target = inputs + k;
-                assert_eq!(after[target], start[target] ^ value, "target {k}, {}", describe());
-            }
+        assert!(j < whole.outputs || first == whole, "all shares of {}", hex(&file));
+        holds_after(seen, &first, j, &runs);
+    }
+}
+
+/// A start, and the outputs' values on its inputs.
+struct Run {
+    start: Vec<u8>,
+    values: Vec<u8>,
+}
+
+/// The same of one j, whose shares are the gates of this circuit.
+fn holds_after(seen: &mut Seen, circuit: &Circuit, j: usize, runs: &[Run]) {
+    let file = circuit::write(circuit);
+    let gate_count = circuit.gates.len() as u64;
+    assert_eq!(oracle::read_circuit(&file), Ok(gate_count), "{}", hex(&file));
+    let first_work_line = circuit.inputs + circuit.outputs;
+    for Run { start, values } in runs {
+        let after = run(&file, start);
+        let mut expected = start.clone();
+        let targets = circuit.inputs..circuit.inputs + j;
+        seen.runs(1, &start[first_work_line..], &values[..j]);
+        if start[first_work_line..].contains(&1) {
+            // Of a start like this, nothing is said of the targets.
+            expected[targets.clone()].copy_from_slice(&after[targets]);
+        } else {
+            expected[targets].iter_mut().zip(values).for_each(|(line, value)| *line ^= value);
         }
+        assert_eq!(after, expected, "{j} shares from {start:?}, circuit of {}", hex(&file));
     }
 }
 
@@ -165,71 +165,94 @@ fn undone(circuit: &Circuit, gates: &[Gate], target: usize) -> Vec<u8> {
     area
 }
 
+/// How many shares reached the bounds that the size gives.
+#[derive(Default)]
+struct Reached {
+    lines: u64,
+    gates: u64,
+}
+
 /// The gates of each output, the numbers that are told of them, and the bounds by the size.
 #[test]
 fn gates_of_random_programs() {
     let mut random = Random::new(0x6e75_6d62);
     let mut seen = Seen::default();
-    let (mut lines_reached, mut gates_reached) = (0, 0);
+    let mut reached = Reached::default();
     for _ in 0..4_000 {
-        let drawn = drawn::accepted(&mut random);
-        let describe = || format!("program of {}", hex(&drawn.bytes()));
-        let program = read(&drawn);
-        let nodes = &program.nodes;
+        let program = read(&drawn::accepted(&mut random));
         let circuit = construct::circuit(&program);
         seen.program(&program, circuit.gates.len(), circuit.work);
-
-        let sizes = construct::sizes(nodes);
-        let first_work_line = program.inputs + program.outputs.len();
-        let mut gates = Vec::new();
-        let mut most = 0;
-        for (k, &i) in program.outputs.iter().enumerate() {
-            let target = program.inputs + k;
-            let build = construct::build(nodes, i, target, first_work_line);
-            let share = construct::share(&program, k);
-            let own = build.iter().filter(|gate| gate.target() == target).count();
-            assert_eq!(build.len(), construct::gate_count(nodes, i), "{}", describe());
-            assert_eq!(own, construct::own_gate_count(nodes, i), "{}", describe());
-            assert_eq!(share.len(), construct::share_gate_count(nodes, i), "{}", describe());
-            assert_eq!(share[..build.len()], build, "{}", describe());
-            let expected = from_operands(nodes, i, target, first_work_line);
-            assert_eq!(build, expected, "output {k} and its operands, {}", describe());
-            let rest = Circuit { gates: share[build.len()..].to_vec(), ..circuit };
-            let expected = undone(&circuit, &build, target);
-            assert_eq!(circuit::write(&rest), expected, "output {k} undone, {}", describe());
-
-            // The lines taken are the lowest ones, each the control of one gate, and no other line
-            // but an input is a control.
-            let mut taken: Vec<usize> =
-                build.iter().flat_map(controls).filter(|line| *line >= program.inputs).collect();
-            taken.sort_unstable();
-            let work = construct::work_lines(nodes, i);
-            let lowest = first_work_line..first_work_line + work;
-            assert!(taken.into_iter().eq(lowest.clone()), "the lines taken, {}", describe());
-            for gate in &share {
-                let written = gate.target();
-                assert!(written == target || lowest.contains(&written), "{gate:?}, {}", describe());
-            }
-
-            let size = construct::size(nodes, i);
-            assert_eq!(size, sizes[i], "{}", describe());
-            assert!(work < size, "{work} work lines, size {size}, {}", describe());
-            assert!(share.len() < 2 * size, "{} gates, size {size}, {}", share.len(), describe());
-            lines_reached += u64::from(size > 1 && work == size - 1);
-            gates_reached += u64::from(size > 1 && share.len() == 2 * size - 1);
-
-            gates.extend(share);
-            most = most.max(work);
-        }
-        assert_eq!(circuit.gates, gates, "{}", describe());
-        assert_eq!(circuit.work, most, "{}", describe());
+        let shares = (0..program.outputs.len())
+            .flat_map(|k| checked_share(&mut reached, &program, &circuit, k));
+        let gates: Vec<Gate> = shares.collect();
+        assert_eq!(circuit.gates, gates, "{program:?}");
+        let lines = |i: &usize| construct::work_lines(&program.nodes, *i);
+        assert_eq!(Some(circuit.work), program.outputs.iter().map(lines).max(), "{program:?}");
     }
     finish(&seen, "construct, gates", 4_000);
     println!(
-        "construct, gates: size - 1 work lines in {lines_reached} shares, \
-         2 size - 1 gates in {gates_reached}"
+        "construct, gates: size - 1 work lines in {} shares, 2 size - 1 gates in {}",
+        reached.lines, reached.gates
     );
-    assert!(lines_reached > 100 && gates_reached > 100, "the bounds were hardly reached");
+    assert!(reached.lines > 100 && reached.gates > 100, "the bounds were hardly reached");
+}
+
+/// The share of output k, whose gates and numbers are as they should be.
+fn checked_share(
+    reached: &mut Reached,
+    program: &model::program::Program,
+    circuit: &Circuit,
+    k: usize,
+) -> Vec<Gate> {
+    let (nodes, i) = (&program.nodes, program.outputs[k]);
+    let target = program.inputs + k;
+    let first_work_line = program.inputs + program.outputs.len();
+    let build = construct::build(nodes, i, target, first_work_line);
+    let share = construct::share(program, k);
+    let own = build.iter().filter(|gate| gate.target() == target).count();
+    assert_eq!(build.len(), construct::gate_count(nodes, i), "{program:?}");
+    assert_eq!(own, construct::own_gate_count(nodes, i), "{program:?}");
+    assert_eq!(share.len(), construct::share_gate_count(nodes, i), "{program:?}");
+    assert_eq!(share[..build.len()], build, "{program:?}");
+    let expected = from_operands(nodes, i, target, first_work_line);
+    assert_eq!(build, expected, "output {k} and its operands, {program:?}");
+    let rest = Circuit { gates: share[build.len()..].to_vec(), ..*circuit };
+    let expected = undone(circuit, &build, target);
+    assert_eq!(circuit::write(&rest), expected, "output {k} undone, {program:?}");
+    check_lines(program, k, &build, &share);
+    check_bounds(reached, program, i, &share);
+    share
+}
+
+/// The lines taken are the lowest ones, each the control of one gate, and no other line but an input
+/// is a control.
+fn check_lines(program: &model::program::Program, k: usize, build: &[Gate], share: &[Gate]) {
+    let mut taken: Vec<usize> =
+        build.iter().flat_map(controls).filter(|line| *line >= program.inputs).collect();
+    taken.sort_unstable();
+    let first = program.inputs + program.outputs.len();
+    let lowest = first..first + construct::work_lines(&program.nodes, program.outputs[k]);
+    assert!(taken.into_iter().eq(lowest.clone()), "the lines taken, {program:?}");
+    for gate in share {
+        let written = gate.target();
+        let own = written == program.inputs + k;
+        assert!(own || lowest.contains(&written), "{gate:?}, {program:?}");
+    }
+}
+
+fn check_bounds(
+    reached: &mut Reached,
+    program: &model::program::Program,
+    i: usize,
+    share: &[Gate],
+) {
+    let (size, gates) = (construct::size(&program.nodes, i), share.len());
+    let work = construct::work_lines(&program.nodes, i);
+    assert_eq!(size, construct::sizes(&program.nodes)[i], "{program:?}");
+    assert!(work < size, "{work} work lines, size {size}, {program:?}");
+    assert!(gates < 2 * size, "{gates} gates, size {size}, {program:?}");
+    reached.lines += u64::from(size > 1 && work == size - 1);
+    reached.gates += u64::from(size > 1 && gates == 2 * size - 1);
 }
 
 /// The examples of 01, gate by gate as they are written out beside the circuit files.

@@ -3,11 +3,16 @@
 use std::hint::black_box;
 
 use agreement::circuit::{cnot, not, toffoli, Circuit};
+use agreement::compare::compile::needs;
+use agreement::compare::NO_GATES;
 use agreement::program::{and, input, Node, Program};
 use agreement::random::Random;
 use agreement::{limits, program};
 
-use crate::sides::{self, Side};
+use crate::idiomatic::Refused;
+use crate::sides::{self, Side, ARCHIVE, RUST};
+
+use Service::{Compile, Evaluate, ReadCircuit, ReadProgram, RunBackwards, RunForwards, Undo};
 
 const MOST_NODES: usize = 4096;
 const MOST_BYTES: usize = 64_028;
@@ -30,6 +35,8 @@ pub struct Job {
     pub buffers: &'static str,
     /// How many rounds are timed.
     pub rounds: usize,
+    /// Whether the calls give results and no refusals.
+    accepted: bool,
     files: Vec<Given>,
 }
 
@@ -43,8 +50,6 @@ pub enum Service {
     RunBackwards,
     Undo,
 }
-
-use Service::{Compile, Evaluate, ReadCircuit, ReadProgram, RunBackwards, RunForwards, Undo};
 
 /// The services in the order of the tables.
 pub const SERVICES: [Service; 7] =
@@ -88,10 +93,14 @@ impl Job {
         self.files.len() as u32
     }
 
-    /// Stops unless both sides answer alike on these files.
-    pub fn sides_agree(&self, random: &mut Random) {
+    /// Stops unless both sides answer alike on these files, and as the job says.
+    pub fn check(&self, random: &mut Random) {
         for given in &self.files {
             sides::agree_on(random, &given.file);
+            for side in [&ARCHIVE, &RUST] {
+                let accepted = Areas::new().call(self.service, side, given);
+                assert_eq!(accepted, self.accepted, "{} {}", self.service.name(), self.name);
+            }
         }
     }
 
@@ -124,14 +133,15 @@ impl Areas {
         }
     }
 
-    fn call(&mut self, service: Service, side: &Side, given: &Given) {
+    /// Calls a service, and says whether it gave a result.
+    fn call(&mut self, service: Service, side: &Side, given: &Given) -> bool {
         let (file, bits) = (black_box(&given.file[..]), black_box(&given.bits[..]));
         match service {
             ReadProgram => seen((side.read_program)(file)),
             Evaluate => seen((side.evaluate)(file, black_box(&mut self.values), bits, 0)),
             Compile => {
                 let (sizes, area) = (black_box(&mut self.sizes), black_box(&mut self.area));
-                seen((side.compile)(file, MOST_WORK_LINES, sizes, area));
+                seen((side.compile)(file, MOST_WORK_LINES, sizes, area))
             }
             ReadCircuit => seen((side.read_circuit)(file)),
             RunForwards => seen((side.run_forwards)(file, self.reset(bits))),
@@ -149,8 +159,8 @@ impl Areas {
 }
 
 /// Takes an answer, so that it has to be made.
-fn seen<T>(answer: T) {
-    black_box(answer);
+fn seen<T>(answer: Result<T, Refused>) -> bool {
+    black_box(answer).is_ok()
 }
 
 /// The jobs of the first table: every service on the largest files.
@@ -160,6 +170,7 @@ pub fn largest(random: &mut Random) -> Vec<Job> {
         name,
         buffers: service.buffers(),
         rounds: 301,
+        accepted: true,
         files: vec![Given { file, bits }],
     };
     let compile =
@@ -172,6 +183,7 @@ pub fn largest(random: &mut Random) -> Vec<Job> {
     let gates = "8,000 gates on 1,152 lines";
     let chosen = "the same, a third of the lines chosen";
     let mut refused = compile("refused 11, 64 outputs of size 16,384", limits::largest_outputs(64));
+    refused.accepted = false;
     refused.buffers = CLEARED;
     refused.rounds = 31;
     vec![
@@ -194,13 +206,14 @@ pub fn of_gates(random: &mut Random, service: Service, gates: usize) -> Job {
     let mut files = Vec::new();
     for _ in 0..64_000 / gates {
         files.push(if service.takes_program() {
-            Given { file: chains(random, gates / 125).bytes(), bits: random.bits(64) }
+            Given { file: chains(random, gates), bits: random.bits(64) }
         } else {
             let bits = if matches!(service, Undo) { a_third(random) } else { random.bits(1152) };
             Given { file: random_circuit(random, gates), bits }
         });
     }
-    Job { service, name: "", buffers: service.buffers(), rounds: 101, files }
+    let name = "by gates";
+    Job { service, name, buffers: service.buffers(), rounds: 101, accepted: true, files }
 }
 
 /// Choices of about a third of the lines.
@@ -221,17 +234,24 @@ fn random_circuit(random: &mut Random, gates: usize) -> Vec<u8> {
     circuit.bytes()
 }
 
-/// So many outputs, each 31 ANDs of its own in a chain: 125 gates an output.
-fn chains(random: &mut Random, outputs: usize) -> Program {
+/// A program of so many gates: an output for each 125 of them, with 31 ANDs of its own in a chain.
+fn chains(random: &mut Random, gates: usize) -> Vec<u8> {
     let mut nodes: Vec<Node> = (0..64).map(input).collect();
-    let mut last = Vec::new();
-    for _ in 0..outputs {
-        let mut before = random.below(64) as u16;
-        nodes.extend((0..31).map(|i| {
-            let operand = std::mem::replace(&mut before, (64 + 31 * last.len() + i) as u16);
-            and(operand, random.below(64) as u16)
-        }));
-        last.push(before);
+    let mut outputs = Vec::new();
+    for _ in 0..gates / 125 {
+        add_chain(random, &mut nodes);
+        outputs.push(nodes.len() as u16 - 1);
     }
-    Program::new(64, &nodes, &last)
+    let file = Program::new(64, &nodes, &outputs).bytes();
+    let bytes = needs(&file).map(|(_, bytes)| bytes);
+    assert_eq!(bytes, Some(NO_GATES + 8 * gates), "a program of {gates} gates");
+    file
+}
+
+fn add_chain(random: &mut Random, nodes: &mut Vec<Node>) {
+    nodes.push(and(random.below(64) as u16, random.below(64) as u16));
+    for _ in 1..31 {
+        let before = nodes.len() as u16 - 1;
+        nodes.push(and(before, random.below(64) as u16));
+    }
 }

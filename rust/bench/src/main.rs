@@ -45,7 +45,7 @@ fn ratios(random: &mut Random) {
         "service", "job", "liboracle.a", "Rust", "ratio"
     );
     for job in jobs::largest(random) {
-        job.sides_agree(random);
+        job.check(random);
         let (archive, rust) = side_by_side(&job);
         let ratio = archive.as_secs_f64() / rust.as_secs_f64();
         let (service, name, buffers) = (job.service.name(), job.name, job.buffers);
@@ -59,7 +59,8 @@ fn growth(random: &mut Random) {
     println!(
         "\nTime of a call of liboracle.a, and of that a gate, by the gates of the circuit. The"
     );
-    println!("calls go in turn over files with 64,000 gates together; buffers as above.\n");
+    println!("calls go in turn over files with 64,000 gates together. Lines are reset before each");
+    println!("call, and no other buffer is cleared.\n");
     let columns = GATES.map(|gates| format!("{:>21}", format!("{gates} gates"))).concat();
     println!("{:<13} {columns}", "service");
     for service in SERVICES {
@@ -70,6 +71,7 @@ fn growth(random: &mut Random) {
 
 fn time_of_gates(random: &mut Random, service: Service, gates: usize) -> String {
     let job = jobs::of_gates(random, service, gates);
+    job.check(random);
     let mut calls = job.on(&ARCHIVE);
     let mut times: Vec<Duration> = (0..job.rounds).map(|_| round(&job, &mut calls)).collect();
     let time = median(&mut times);
