@@ -57,6 +57,24 @@ impl Layout {
         self.fitted()
     }
 
+    /// The same with a byte that is in no body before this one.
+    pub fn with_gap(mut self, body: usize) -> Layout {
+        self.bodies.insert(body, vec![0]);
+        for entry in &mut self.entries[body..] {
+            entry.start += 1;
+        }
+        self
+    }
+
+    /// The same with this body starting so many bytes before the end of the one before.
+    pub fn with_overlap(mut self, body: usize, bytes: usize) -> Layout {
+        self.bodies[body].drain(..bytes);
+        for entry in &mut self.entries[body..] {
+            entry.start -= bytes as u32;
+        }
+        self
+    }
+
     /// The file.
     pub fn bytes(&self) -> Vec<u8> {
         let mut file = self.entry_count.to_le_bytes().to_vec();

@@ -36,7 +36,6 @@ pub fn all() -> Vec<Shaped> {
         starts(),
         ends(),
         bodies_apart(),
-        bodies_overlapping(),
         bodies_in_another_order(),
         sums_past_32_bits(),
         head_and_node_lengths(),
@@ -255,73 +254,22 @@ fn ends() -> Vec<Shaped> {
 
 /// Bodies that are not side by side.
 fn bodies_apart() -> Vec<Shaped> {
+    let gap = |body: usize| whole_case().layout().with_gap(body).bytes();
+    let overlap = |body: usize| whole_case().layout().with_overlap(body, 1).bytes();
+    let within = laid(|l| {
+        l.bodies[2].clear();
+        l.entries[2].start = 42;
+    });
     vec![
-        refused(
-            "a gap before the first body",
-            laid(|l| {
-                l.bodies.insert(0, vec![0]);
-                l.entries[0].start += 1;
-                l.entries[1].start += 1;
-                l.entries[2].start += 1;
-            }),
-            2,
-            0,
-        ),
-        refused(
-            "a gap before the second body",
-            laid(|l| {
-                l.bodies.insert(1, vec![0]);
-                l.entries[1].start += 1;
-                l.entries[2].start += 1;
-            }),
-            2,
-            0,
-        ),
-        refused(
-            "a gap before the third body",
-            laid(|l| {
-                l.bodies.insert(2, vec![0]);
-                l.entries[2].start += 1;
-            }),
-            2,
-            0,
-        ),
+        refused("a gap before the first body", gap(0), 2, 0),
+        refused("a gap before the second body", gap(1), 2, 0),
+        refused("a gap before the third body", gap(2), 2, 0),
         refused("a byte at the end", laid(|l| l.bodies.push(vec![0])), 2, 0),
-    ]
-}
-
-fn bodies_overlapping() -> Vec<Shaped> {
-    vec![
         // Read so, the nodes would be ZERO, INPUT 1 and AND 0 1.
-        refused(
-            "a second body that overlaps the first",
-            laid(|l| {
-                l.bodies[1].remove(0);
-                l.entries[1].start -= 1;
-                l.entries[2].start -= 1;
-            }),
-            2,
-            0,
-        ),
+        refused("a second body that overlaps the first", overlap(1), 2, 0),
         // Read so, the output would be 0.
-        refused(
-            "a third body that overlaps the second",
-            laid(|l| {
-                l.bodies[2].remove(0);
-                l.entries[2].start -= 1;
-            }),
-            2,
-            0,
-        ),
-        refused(
-            "a third body within the second",
-            laid(|l| {
-                l.bodies[2].clear();
-                l.entries[2].start = 42;
-            }),
-            2,
-            0,
-        ),
+        refused("a third body that overlaps the second", overlap(2), 2, 0),
+        refused("a third body within the second", within, 2, 0),
     ]
 }
 

@@ -220,20 +220,9 @@ fn starts_and_ends() -> Vec<Shaped> {
 
 /// Bodies that are not side by side.
 fn bodies_apart() -> Vec<Shaped> {
-    let gap_at_0 = laid(|l| {
-        l.bodies.insert(0, vec![0]);
-        l.entries[0].start += 1;
-        l.entries[1].start += 1;
-    });
-    let gap_at_1 = laid(|l| {
-        l.bodies.insert(1, vec![0]);
-        l.entries[1].start += 1;
-    });
+    let gap = |body: usize| whole_case().layout().with_gap(body).bytes();
     // Read so, it would be the whole case: w and the first gate's kind are both 2.
-    let overlap = laid(|l| {
-        l.bodies[1].drain(..2);
-        l.entries[1].start -= 2;
-    });
+    let overlap = whole_case().layout().with_overlap(1, 2).bytes();
     let within = laid(|l| {
         l.bodies[1].clear();
         l.entries[1] = Entry { tag: 18, start: 22, length: 6 };
@@ -244,8 +233,8 @@ fn bodies_apart() -> Vec<Shaped> {
     let mut own_place = other_order.clone();
     own_place.entries.swap(0, 1);
     vec![
-        refused("a gap before the first body", gap_at_0, 2, 0),
-        refused("a gap before the second body", gap_at_1, 2, 0),
+        refused("a gap before the first body", gap(0), 2, 0),
+        refused("a gap before the second body", gap(1), 2, 0),
         refused("a byte at the end", laid(|l| l.bodies.push(vec![0])), 2, 0),
         refused("a gate at the end", laid(|l| l.bodies.push(vec![0; 8])), 2, 0),
         refused("a second body that overlaps the first", overlap, 2, 0),
