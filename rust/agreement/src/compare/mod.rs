@@ -8,6 +8,7 @@ pub mod run;
 pub mod undo;
 
 use crate::lent::lent;
+use crate::random::Random;
 use crate::Outcome;
 
 /// The length of a circuit file without gates.
@@ -31,7 +32,7 @@ fn model<T>(answer: Result<T, model::Refusal>) -> Outcome<T> {
 }
 
 /// A random length about the one that is needed.
-fn length_about(random: &mut crate::random::Random, needed: usize) -> usize {
+fn length_about(random: &mut Random, needed: usize) -> usize {
     match random.below(12) {
         0..=4 => needed,
         5..=6 => needed + 1,
