@@ -7,17 +7,17 @@ ghost use mathlib.Core.Path.{_≡_};
 ghost use mathlib.Core.List.{_++_};
 ghost use Prim.Native.Nat.{_/_};
 ghost use lib.ListN.{length, drop};
+ghost use Rattle.program.specs.Exprs.{value};
 ghost use Rattle.program.specs.Nodes.{nodesIn};
 ghost use Rattle.program.specs.Programs.{nodeValues};
-ghost use Rattle.program.specs.Steps.{nodeValue};
-ghost use Rattle.program.specs.Steps.{NodeOk, Fillable};
+ghost use Rattle.program.specs.Steps.{NodeOk, Fillable, NextOf};
 ghost use Rattle.wire.specs.Bits.{Bits};
 
 // The value of a node, where values has those of the nodes before it.
 fn node_value(node: Node, values: &[u8], inputs: &[u8]) -> u8
     requires { ⌜ NodeOk (length (now inputs)) (length (now values)) node ⌝ }
     requires { ⌜ Bits (now values) × Bits (now inputs) ⌝ }
-    ensures { λ r. ⌜ r ≡ nodeValue node (now (values .entry)) (now (inputs .entry)) ⌝ }
+    ensures { λ r. ⌜ NextOf (λ e. value e (now (inputs .entry))) node (now (values .entry)) r ⌝ }
 {
     match node {
         Node::Zero => 0,

@@ -1,4 +1,5 @@
 pub mod AcceptedLaws
+pub mod FilledLaws
 pub mod NodeLaws
 pub mod ReadingLaws
 pub mod TreeLaws

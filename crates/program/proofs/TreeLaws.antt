@@ -32,7 +32,7 @@ unfolding trees
 length-trees ns = from-length [] ns ∙ zero-add (length ns)
 
 -- a node's tree depends on the trees below it alone
-tree-same : (m i : ℕ) (n : Node) (ts us : List Expr) → NodeOk m i n → ((k : ℕ) → k < i → getD ts k ZERO ≡ getD us k ZERO) → treeOf ts n ≡ treeOf us n
+pub tree-same : (m i : ℕ) (n : Node) (ts us : List Expr) → NodeOk m i n → ((k : ℕ) → k < i → getD ts k ZERO ≡ getD us k ZERO) → treeOf ts n ≡ treeOf us n
 unfolding treeOf
 tree-same m i Zero ts us w h = refl
 tree-same m i One ts us w h = refl

@@ -1,15 +1,17 @@
 -- What the steps of reading and filling ask of their callers, and what they answer: no service's definition is here.
-use Prim.Native.Nat.{ℕ, _*_, _/_, _<_, _≤_}
-use mathlib.Core.List.{List}
+use Prim.Native.Nat.{ℕ, _/_, _<_, _≤_}
+use mathlib.Core.Path.{_≡_}
+use mathlib.Core.List.{List, map}
 use lib.ListN.{length, getD}
 use Rattle.wire.specs.Answers.{Answer, result, refuse, check}
-use Rattle.wire.specs.Bits.{xorBit, bit}
 use Rattle.wire.specs.declared.refusals.Refusal.the-variants as cause
 use Rattle.program.specs.declared.node.Node.{Node}
 use Rattle.program.specs.declared.node.Node.the-variants.{Zero, One, Input, Not, Xor, And}
 use Rattle.program.specs.declared.node.NodeRead.{NodeRead}
 use Rattle.program.specs.declared.node.NodeRead.the-variants.{Good, Bad}
+use Rattle.program.specs.Exprs.{Expr}
 use Rattle.program.specs.Nodes.{nodeAt, nodesIn, nodeFits}
+use Rattle.program.specs.Trees.{treeOf}
 
 -- what reading node i gives: the node, or cause 5 with its index
 unfoldable pub readNode : ℕ → List ℕ → ℕ → Answer Node
@@ -38,11 +40,6 @@ pub record Fillable (n : ℕ) (body : List ℕ) (entries : ℕ) : Type 0 where
   pub ordered : TableOk n (nodesIn body)
   pub fits : length body / 6 ≤ entries
 
--- a node's value, where the values of the nodes before it are given
-unfoldable pub nodeValue : Node → List ℕ → List ℕ → ℕ
-nodeValue Zero vs x = 0
-nodeValue One vs x = 1
-nodeValue (Input j) vs x = bit x j
-nodeValue (Not a) vs x = xorBit 1 (bit vs a)
-nodeValue (Xor a b) vs x = xorBit (bit vs a) (bit vs b)
-nodeValue (And a b) vs x = bit vs a * bit vs b
+-- r is what f says of the node's tree, where the list has what it says of the trees before it
+abbrev pub NextOf : (Expr → ℕ) → Node → List ℕ → ℕ → Type 0
+NextOf f node list r = (ts : List Expr) → list ≡ map f ts → r ≡ f (treeOf ts node)

@@ -7,11 +7,12 @@ ghost use mathlib.Core.List.{_++_};
 ghost use Prim.Native.Nat.{ℕ, _+_, _/_, _<_};
 ghost use lib.ListN.{length, drop};
 ghost use Rattle.wire.specs.Checks.{lowest};
+ghost use Rattle.program.specs.Exprs.{size};
 ghost use Rattle.program.specs.Nodes.{nodesIn};
 ghost use Rattle.program.specs.Reading.{outputAt};
-ghost use Rattle.program.specs.Steps.{NodeOk, Fillable};
+ghost use Rattle.program.specs.Steps.{NodeOk, Fillable, NextOf};
 ghost use Rattle.sizing.specs.Sizing.{shown, nodeSizes};
-ghost use Rattle.sizing.specs.Steps.{nodeSize, entryFits};
+ghost use Rattle.sizing.specs.Steps.{entryFits};
 
 // The largest size that is told apart; the list shows it for every larger one too.
 const TOO_LARGE: u64 = 16385;
@@ -30,7 +31,7 @@ fn joined(a: u16, b: u16) -> u16
 // A node's entry, where sizes has those of the nodes before it.
 fn node_size(node: Node, sizes: &[u16]) -> u16
     requires { ⌜ ((n : ℕ) × NodeOk n (length (now sizes)) node) ⌝ }
-    ensures { λ r. ⌜ r ≡ nodeSize node (now (sizes .entry)) ⌝ }
+    ensures { λ r. ⌜ NextOf (λ e. shown (size e)) node (now (sizes .entry)) r ⌝ }
 {
     match node {
         Node::Zero => 1,

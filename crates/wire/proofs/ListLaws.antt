@@ -51,6 +51,12 @@ map-at f [] i d e h = absurd (omega arith)
 map-at f (a ∷ l) zero d e h = refl
 map-at f (a ∷ l) (suc i) d e h = map-at f l i d e (omega arith)
 
+-- the first elements of a mapped list
+pub take-map : {A B : Type 0} (f : A → B) (l : List A) (i : ℕ) → take i (map f l) ≡ map f (take i l)
+take-map f l zero = refl
+take-map f [] (suc i) = refl
+take-map f (a ∷ l) (suc i) = ap (λ m. f a ∷ m) (take-map f l i)
+
 -- a list made by index has as many elements as were asked for, each where its index says
 tabulateFrom-length : {A : Type 0} (make : ℕ → A) (i k : ℕ) → length (tabulateFrom make i k) ≡ k
 unfolding tabulateFrom

@@ -1,15 +1,14 @@
 use borrow.Author.Needs.{needs}
 use Prim.Native.Nat.{_-_, _/_}
-use mathlib.Core.Path.{sym, ap, _∙_}
+use mathlib.Core.Path.{sym}
 use native.Mathlib.Omega.{arith}
-use lib.ListN.{length, take}
+use lib.ListN.{length}
 use lib.Seq.{length-take-le}
 use Rattle.wire.proofs.FillLaws.{Filled, filled-start}
-use Rattle.program.specs.declared.node.Node.{Node}
 use Rattle.program.specs.Nodes.{nodesIn}
-use Rattle.sizing.specs.Sizing.{nodeSizes}
-use Rattle.sizing.specs.Steps.{nodeSize}
-use Rattle.sizing.proofs.SizeLaws.{size-stored, sizes-stored}
+use Rattle.sizing.specs.Sizing.{shown, nodeSizes}
+use Rattle.program.specs.Exprs.{size}
+use Rattle.program.proofs.FilledLaws.{entry-stored, entries-stored}
 use Rattle.program.proofs.TreeLaws.{next-ok}
 use Rattle.sizing.proofs.fill_sizes.Statement.{statement}
 use Rattle.sizing.proofs.fill_sizes.Tie as tie
@@ -50,16 +49,17 @@ loop-less : tie.Need-loop-less Inv-loop μ-loop
 loop-less c = search needs
 
 loop-again : tie.Need-loop-again Inv-loop μ-loop
+unfolding nodeSizes
 loop-again c =
     let at = c .before .before .before .before .loop in
-    let size = c .node-size .ensures ∙ ap (λ (o : Node). nodeSize o (take (at .i) (at .sizes))) (c .before .before .node-at .ensures) in
-    size-stored _ (at .inv) (c .before .before .before .before .before .before .before .pre .1) (c .before .before .before .loop-test .taken) size
+    entry-stored (λ e. shown (size e)) _ (at .inv) (c .before .before .before .before .before .before .before .pre .1) (c .before .before .before .loop-test .taken) (rw (c .before .before .node-at .ensures) at (c .node-size .ensures))
 
 same-length : tie.Need-same-length Inv-loop μ-loop
 same-length c = c .before .loop .inv .same
 
 returns : tie.Need-returns Inv-loop μ-loop
-returns c = sizes-stored _ (c .before .loop .inv) (c .loop-test .left)
+unfolding nodeSizes
+returns c = entries-stored (λ e. shown (size e)) _ (c .before .loop .inv) (c .loop-test .left)
 
 pub fill-sizes-spec : {M : Type 1} → statement M
 fill-sizes-spec =

@@ -1,16 +1,16 @@
 use borrow.Author.Needs.{needs}
 use Prim.Native.Nat.{_-_, _/_}
-use mathlib.Core.Path.{sym, ap, _∙_}
+use mathlib.Core.Path.{sym}
 use native.Mathlib.Omega.{arith}
-use lib.ListN.{length, take}
+use lib.ListN.{length}
 use lib.Seq.{length-take-le}
 use denote.Ref.{now}
 use Rattle.wire.proofs.FillLaws.{Filled, filled-start}
-use Rattle.program.specs.declared.node.Node.{Node}
 use Rattle.program.specs.Nodes.{nodesIn}
 use Rattle.program.specs.Programs.{nodeValues}
-use Rattle.program.specs.Steps.{nodeValue}
-use Rattle.evaluate.proofs.FillLaws.{front-bits, value-stored, values-stored}
+use Rattle.evaluate.proofs.FillLaws.{front-bits}
+use Rattle.program.specs.Exprs.{value}
+use Rattle.program.proofs.FilledLaws.{entry-stored, entries-stored}
 use Rattle.program.proofs.TreeLaws.{next-ok}
 use Rattle.evaluate.proofs.values.fill_values.Statement.{statement}
 use Rattle.evaluate.proofs.values.fill_values.Tie as tie
@@ -50,17 +50,18 @@ loop-less : tie.Need-loop-less Inv-loop μ-loop
 loop-less c = search needs
 
 loop-again : tie.Need-loop-again Inv-loop μ-loop
+unfolding nodeValues
 loop-again c =
-    let a = c .before .before .before .before .before .before .before .before .args in
     let at = c .before .before .before .before .loop in
-    let value = c .node-value .ensures ∙ ap (λ (o : Node). nodeValue o (take (at .i) (at .values)) (a .inputs .now)) (c .before .before .node-at .ensures) in
-    value-stored _ _ (at .inv) (c .before .before .before .before .before .before .before .before .pre .0) (c .before .before .before .loop-test .taken) value
+    let x = c .before .before .before .before .before .before .before .before .args .inputs .now in
+    entry-stored (λ e. value e x) _ (at .inv) (c .before .before .before .before .before .before .before .before .pre .0) (c .before .before .before .loop-test .taken) (rw (c .before .before .node-at .ensures) at (c .node-value .ensures))
 
 same-length : tie.Need-same-length Inv-loop μ-loop
 same-length c = c .before .loop .inv .same
 
 returns : tie.Need-returns Inv-loop μ-loop
-returns c = values-stored _ _ (c .before .loop .inv) (c .loop-test .left)
+unfolding nodeValues
+returns c = entries-stored (λ e. value e (c .before .before .before .before .before .args .inputs .now)) _ (c .before .loop .inv) (c .loop-test .left)
 
 pub fill-values-spec : {M : Type 1} → statement M
 fill-values-spec =

@@ -1,6 +1,8 @@
 use mathlib.Core.Path.{refl}
+use Rattle.program.specs.Exprs.{value}
+use Rattle.program.specs.Trees.{treeOf}
+use Rattle.program.proofs.ValueLaws.{value-not, value-xor, value-and}
 use native.Mathlib.Omega.{arith}
-use Rattle.program.specs.Steps.{nodeValue}
 use Rattle.program.proofs.NodeLaws.{input-below, not-operand, xor-operands, and-operands}
 use borrow.Author.Needs.{needs}
 use Rattle.evaluate.proofs.values.node_value.Statement.{statement}
@@ -84,28 +86,31 @@ and-bits-requires c κs =
     (omega (arith, bits _ (o .0), bits _ (o .1)), omega (arith, bits _ (o .0), bits _ (o .1)))
 
 returns : tie.Need-returns
-unfolding nodeValue
-returns c = rw (c .enum-told .given .1) refl
+unfolding treeOf value
+returns c ts e = rw (c .enum-told .given .1) refl
 
 returns-2 : tie.Need-returns-2
-unfolding nodeValue
-returns-2 c = rw (c .enum-told2 .given .1) refl
+unfolding treeOf value
+returns-2 c ts e = rw (c .enum-told2 .given .1) refl
 
 returns-3 : tie.Need-returns-3
-unfolding nodeValue
-returns-3 c = rw (c .before .before .node .given .1) refl
+unfolding treeOf value
+returns-3 c ts e = rw (c .before .before .node .given .1) refl
 
 returns-4 : tie.Need-returns-4
-unfolding nodeValue
-returns-4 c = rw (c .before .before .before .node2 .given .1) (c .xor-bits .ensures)
+returns-4 c ts e =
+    let o = c .before .before .before .node2 .given in
+    rw (o .1) (value-not _ ts e (o .0 .0) (c .xor-bits .ensures))
 
 returns-5 : tie.Need-returns-5
-unfolding nodeValue
-returns-5 c = rw (c .before .before .before .before .node3 .given .1) (c .xor-bits2 .ensures)
+returns-5 c ts e =
+    let o = c .before .before .before .before .node3 .given in
+    rw (o .1) (value-xor _ ts e (o .0 .0) (o .0 .1 .0) (c .xor-bits2 .ensures))
 
 returns-6 : tie.Need-returns-6
-unfolding nodeValue
-returns-6 c = rw (c .before .before .before .before .node4 .given .1) (c .and-bits .ensures)
+returns-6 c ts e =
+    let o = c .before .before .before .before .node4 .given in
+    rw (o .1) (value-and _ ts e (o .0 .0) (o .0 .1 .0) (c .and-bits .ensures))
 
 pub node-value-spec : {M : Type 1} → statement M
 node-value-spec =
