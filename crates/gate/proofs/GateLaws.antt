@@ -6,10 +6,10 @@ use mathlib.Core.Bool.{true, false}
 use mathlib.Core.List.{List}
 use lib.ListN.{getD}
 use lib.Dec.{eqb}
-use Rattle.wire.specs.Answers.{result, refuse}
+use Rattle.wire.specs.Answers.{result}
 use Rattle.wire.specs.Bytes.{at16}
 use Rattle.wire.specs.declared.refusals.Refusal.the-variants as cause
-use Rattle.wire.proofs.AnswerLaws.{checked}
+use Rattle.wire.proofs.AnswerLaws.{checked, failed, failed-place}
 use Rattle.wire.proofs.CheckLaws.{by-test, both-second}
 use Rattle.gate.specs.declared.gates.Gate.{Gate}
 use Rattle.gate.specs.declared.gates.GateRead.{GateRead}
@@ -28,14 +28,11 @@ module _ (L : ℕ) (body : List ℕ) (i : ℕ) where
     -- a gate that was refused is not, and its index is reported
     pub read-bad : {k : ℕ} → r ≡ Bad k → gateFits L body i ≡ false
     unfolding readGate
-    read-bad {k} q =
-        by-test (gateFits L body i)
-        (λ t. let z : gateRead r ≡ result (gateAt body i) = simp t at e in let o : _≡_ {A = ℕ} 0 1 = cc (ap gateRead q) in absurd (omega arith))
-        (λ t. t)
+    read-bad {k} q = failed (gateAt body i) (gateFits L body i) (cause.Gate i) 12 k (sym e ∙ ap gateRead q)
 
     pub read-index : {k : ℕ} → r ≡ Bad k → k ≡ i
     unfolding readGate
-    read-index {k} q = let z : gateRead r ≡ refuse (cause.Gate i) = simp (read-bad q) at e in cc (ap gateRead q)
+    read-index {k} q = sym (failed-place (gateAt body i) (gateFits L body i) (cause.Gate i) 12 k (sym e ∙ ap gateRead q))
 
   -- a gate that passes the test of cause 12 is well formed
   pub fits-formed : gateFits L body i ≡ true → WellFormed L (gateAt body i)

@@ -7,18 +7,17 @@ use mathlib.Core.List.{List}
 use lib.ListN.{getD}
 use lib.Dec.{eqb, leb, ltb}
 use borrow.Author.Tests.{lt-leb, ltb-true, eqb-false}
-use Rattle.wire.specs.Answers.{result, refuse}
+use Rattle.wire.specs.Answers.{result}
 use Rattle.wire.specs.Bytes.{at16}
 use Rattle.wire.specs.declared.refusals.Refusal.the-variants as cause
-use Rattle.wire.proofs.AnswerLaws.{checked}
+use Rattle.wire.proofs.AnswerLaws.{checked, failed, failed-place}
 use Rattle.wire.proofs.CheckLaws.{by-test, both-first, both-second}
 use Rattle.program.specs.declared.node.Node.{Node}
 use Rattle.program.specs.declared.node.Node.the-variants.{Input, Not, Xor, And}
 use Rattle.program.specs.declared.node.NodeRead.{NodeRead}
 use Rattle.program.specs.declared.node.NodeRead.the-variants.{Good, Bad}
 use Rattle.program.specs.Nodes.{nodeOf, operandsFit, nodeAt, nodeFits}
-use Rattle.program.specs.Steps.{readNode, nodeRead}
-use Rattle.program.specs.Steps.{NodeOk}
+use Rattle.program.specs.Steps.{readNode, nodeRead, NodeOk}
 
 module _ (n : ℕ) (body : List ℕ) (i : ℕ) {r : NodeRead} (e : nodeRead r ≡ readNode n body i) where
   -- a node that was read is in order
@@ -29,14 +28,11 @@ module _ (n : ℕ) (body : List ℕ) (i : ℕ) {r : NodeRead} (e : nodeRead r �
   -- a node that was refused is not, and its index is reported
   pub read-bad : {k : ℕ} → r ≡ Bad k → nodeFits n body i ≡ false
   unfolding readNode
-  read-bad {k} g =
-      by-test (nodeFits n body i)
-      (λ t. let z : nodeRead r ≡ result (nodeAt body i) = simp t at e in let o : _≡_ {A = ℕ} 0 1 = cc (ap nodeRead g) in absurd (omega arith))
-      (λ t. t)
+  read-bad {k} g = failed (nodeAt body i) (nodeFits n body i) (cause.Node i) 5 k (sym e ∙ ap nodeRead g)
 
   pub read-index : {k : ℕ} → r ≡ Bad k → k ≡ i
   unfolding readNode
-  read-index {k} g = let z : nodeRead r ≡ refuse (cause.Node i) = simp (read-bad g) at e in cc (ap nodeRead g)
+  read-index {k} g = sym (failed-place (nodeAt body i) (nodeFits n body i) (cause.Node i) 5 k (sym e ∙ ap nodeRead g))
 
 -- the operands of a node in order are lower, and its input is below n
 module _ (n i kind a b : ℕ) where

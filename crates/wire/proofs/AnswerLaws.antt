@@ -3,9 +3,9 @@ use Prim.Native.Nat.{ℕ}
 use native.Mathlib.Omega.{arith}
 use mathlib.Core.Path.{_≡_, refl, _∙_}
 use mathlib.Core.Logic.{_≢_}
-use mathlib.Core.Bool.{Bool, true}
+use mathlib.Core.Bool.{Bool, true, false}
 use Rattle.wire.specs.declared.refusals.Refusal.{Refusal}
-use Rattle.wire.specs.Answers.{Answer, result, refused, refuse, check, mapAnswer, andThen, numberOf}
+use Rattle.wire.specs.Answers.{Answer, result, refused, refuse, check, mapAnswer, andThen, numberOf, placeOf}
 use Rattle.wire.proofs.CheckLaws.{by-test}
 
 module _ {A : Type 0} (a : A) (test : Bool) (why : Refusal) (next : Answer A) where
@@ -19,6 +19,14 @@ module _ {A : Type 0} (a : A) (test : Bool) (why : Refusal) (next : Answer A) wh
   -- and the rest of the chain ends in the result too
   pub checked-next : check test why next ≡ result a → next ≡ result a
   checked-next e = simp (checked e) at e
+
+-- a check before a result that answers with a refusal: the test failed, and the place is its cause's
+module _ {A : Type 0} (a : A) (test : Bool) (why : Refusal) (n p : ℕ) (e : check test why (result a) ≡ refused n p) where
+  pub failed : test ≡ false
+  failed = by-test test (λ t. let z : result a ≡ refused n p = simp t at e in let o : _≡_ {A = ℕ} 0 1 = cc in absurd (omega arith)) (λ t. t)
+
+  pub failed-place : placeOf why ≡ p
+  failed-place = let z : refuse {A = A} why ≡ refused n p = simp failed at e in cc
 
 -- equal results have equal values
 pub same-result : {A : Type 0} (a b : A) → _≡_ {A = Answer A} (result a) (result b) → a ≡ b

@@ -6,14 +6,13 @@ use Rattle.circuit.proofs.reader.head_in.Lts as lts
 use Rattle.wire.proofs.contents.body.Reads as body-reads
 use Rattle.wire.proofs.contents.entry_length.Reads as entry-length-reads
 use Rattle.wire.proofs.numbers.get16.Reads as get16-reads
-use Prim.Native.Nat.{ℕ}
+use Prim.Native.Nat.{ℕ, _/_}
 use mathlib.Core.Path.{_≡_, ap, _∙_}
 use mathlib.Core.List.{List}
 use native.Mathlib.Omega.{arith}
 use lib.ListN.{length}
 use Rattle.circuit.specs.Format.{headLength}
 use Rattle.circuit.proofs.ReadingLaws.{head-long, head-read}
-use Prim.Native.Nat.{_/_}
 use Rattle.wire.specs.Bytes.{at16}
 use Rattle.wire.proofs.ContentsLaws.{body-there}
 

@@ -7,8 +7,7 @@ use Rattle.circuit.proofs.reader.gate_body.Reads as gate-body-reads
 use Rattle.circuit.proofs.reader.line_count.Reads as line-count-reads
 use Rattle.circuit.proofs.reader.read_gates.Reads as read-gates-reads
 use Rattle.circuit.proofs.reader.read_head.Reads as read-head-reads
-use mathlib.Core.Path.{sym, _∙_}
-use mathlib.Core.Path.{_≡_}
+use mathlib.Core.Path.{sym, _∙_, _≡_}
 use Rattle.wire.specs.Checks.{lowest}
 use Rattle.wire.specs.Contents.{bodyOf}
 use Rattle.gate.specs.GateBytes.{gateFits}

@@ -1,5 +1,4 @@
-use mathlib.Core.Path.{_∙_, sym}
-use mathlib.Core.Path.{_∙_}
+use mathlib.Core.Path.{_∙_, sym, _∙_}
 use borrow.Author.Tests.{lt-leb, le-leb, eq-eqb, ne-eqb}
 use Rattle.wire.specs.Contents.{tableFits}
 use borrow.Author.Needs.{needs}
