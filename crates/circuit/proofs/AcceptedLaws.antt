@@ -1,5 +1,5 @@
 -- What an accepted circuit file holds. Assumes nothing.
-use Prim.Native.Nat.{ℕ, _<_, _≤_}
+use Prim.Native.Nat.{ℕ, _/_, _<_, _≤_}
 use native.Mathlib.Omega.{arith}
 use mathlib.Core.Path.{_≡_, refl, sym, ap, _∙_}
 use mathlib.Core.Logic.{_≢_}
@@ -12,13 +12,11 @@ use Rattle.wire.specs.Bits.{Bits, bitsFit}
 use Rattle.wire.specs.Checks.{allBelow, lowest}
 use Rattle.wire.specs.Contents.{tableFits, entriesFit, bodyOf}
 use Rattle.wire.specs.Steps.{Laid}
-use Rattle.wire.specs.Lists.{tabulate}
 use Rattle.wire.specs.declared.refusals.Refusal.{Refusal}
 use Rattle.wire.specs.declared.refusals.Refusal.the-variants as cause
 use Rattle.wire.proofs.AnswerLaws.{checked, checked-next, same-result, Came, came, came-refused, led, Never, never-result, never-check, never-then}
 use Rattle.wire.proofs.BitLaws.{bits-count, bits-are}
 use Rattle.wire.proofs.CheckLaws.{all-below}
-use Rattle.wire.proofs.ListLaws.{tabulate-length}
 use Rattle.gate.specs.Gates.{WellFormed, All}
 use Rattle.gate.specs.GateBytes.{gateAt, gateFits}
 use Rattle.gate.proofs.AllLaws.{all-tabulate}
@@ -29,6 +27,7 @@ use Rattle.circuit.specs.declared.reader.CircuitRead.the-variants.{Good,
 use Rattle.circuit.specs.Circuits.{Circuit, lineCount, headOf, headLines, Legal, gatesIn}
 use Rattle.circuit.specs.Format.{tags}
 use Rattle.circuit.specs.Reading.{lengthsFit, rangesFit, headIn, readHead, circuitOf, readCircuit, readWithLines, circuitRead}
+use Rattle.circuit.proofs.GateBodyLaws.{gates-count}
 use Rattle.circuit.proofs.ReadingLaws.{Headed, headed, gates-counted, lines-most}
 
 -- an accepted file: its head was read, every gate is in order, and the circuit is the file's
@@ -59,15 +58,13 @@ module _ (f : List ℕ) (c : Circuit) (a : Accepted f c) where
   -- its gates are those of the gate body
   pub gates-are : c .gates ≡ gatesIn (bodyOf f 1)
   unfolding circuitOf
-  gates-are =
-      ap (λ (k : Circuit). k .gates) (a .is)
-      ∙ ap (tabulate (gateAt (bodyOf f 1))) (sym (gates-counted f (a .headed)))
+  gates-are = ap (λ (k : Circuit). k .gates) (a .is)
 
   -- its head is the file's
   pub head-is : headOf c ≡ a .head
   unfolding circuitOf
   head-is =
-      let n = tabulate-length (gateAt (bodyOf f 1)) (a .head .gates) in
+      let n : length (gatesIn (bodyOf f 1)) ≡ a .head .gates = gates-count (bodyOf f 1) ∙ gates-counted f (a .headed) in
       ap headOf (a .is) ∙ rw n refl
 
   pub lines-are : lineCount c ≡ headLines (a .head)
@@ -80,7 +77,7 @@ module _ (f : List ℕ) (c : Circuit) (a : Accepted f c) where
   formed =
       let body : List ℕ = bodyOf f 1 in
       rw (ap (λ (k : Circuit). k .gates) (a .is), lines-are)
-      (all-tabulate (WellFormed (headLines (a .head))) (gateAt body) (a .head .gates) (λ i h. fits-formed (headLines (a .head)) body i (a .gates-fit i h)))
+      (all-tabulate (WellFormed (headLines (a .head))) (gateAt body) (length body / 8) (λ i h. fits-formed (headLines (a .head)) body i (a .gates-fit i (omega (arith, gates-counted f (a .headed))))))
 
   pub legal : Legal c
   legal = record { numbers = rw head-is (a .headed .ranged); formed = formed }
@@ -177,7 +174,7 @@ module _ (f : List ℕ) {r : CircuitRead} (e : circuitRead r ≡ readHead f) whe
     -- and where there is none the circuit is read
     pub gates-good : lowest fits (h .gates) ≡ h .gates → result h ≡ mapAnswer headOf (readCircuit f)
     unfolding readCircuit circuitOf
-    gates-good l = rw (head-good, eq-eqb (lowest fits (h .gates)) (h .gates) l, tabulate-length (gateAt (bodyOf f 1)) (h .gates)) refl
+    gates-good l = rw (head-good, eq-eqb (lowest fits (h .gates)) (h .gates) l, gates-count (bodyOf f 1) ∙ gates-counted f good-headed) refl
 
 -- a circuit that was read, with bytes that pass the test of cause 13 or do not
 pub has-lines : (f lines : List ℕ) (c : Circuit) → readCircuit f ≡ result c → bitsFit (lineCount c) lines ≡ true → readWithLines f lines ≡ result c

@@ -1,5 +1,5 @@
 -- Laws of circuit files: a written circuit reads back, and an accepted file is the writing of what it gives. Assumes nothing.
-use Prim.Native.Nat.{ℕ, zero, suc, _+_, _*_, _%_, _<_, _≤_}
+use Prim.Native.Nat.{ℕ, zero, suc, _+_, _*_, _/_, _%_, _<_, _≤_}
 use native.Mathlib.Omega.{arith}
 use mathlib.Core.Path.{_≡_, refl, sym, ap, ap₂, _∙_, subst}
 use mathlib.Core.Bool.{true}
@@ -16,16 +16,16 @@ use Rattle.wire.specs.Lists.{tabulateFrom, tabulate}
 use Rattle.wire.proofs.ByteLaws.{number16, bytes-take, bytes-drop, drop16}
 use Rattle.wire.proofs.CheckLaws.{below-all}
 use Rattle.wire.proofs.WrittenLaws.{Whole, contents-length, table-back, entries-back, length-back, only-contents}
-use Rattle.wire.proofs.ListLaws.{tabulate-length}
 use Rattle.gate.specs.GateBytes.{gatesBytes, gateAt, gateFits}
 use Rattle.gate.proofs.ByteLaws.{gates-length}
-use Rattle.gate.proofs.ReadBackLaws.{gates-back, gates-fit, gates-only}
+use Rattle.gate.proofs.ReadBackLaws.{gates-fit, gates-only}
 use Rattle.circuit.specs.declared.reader.CircuitHead.{CircuitHead}
 use Rattle.circuit.specs.Circuits.{Circuit, Legal, lineCount, headOf, headLines}
 use Rattle.circuit.specs.Format.{tags, headLength, firstGate, headBytes, openingBytes, circuitFile}
 use Rattle.circuit.specs.Reading.{workOf, gatesOf, lengthsFit, rangesFit, headIn, readHead, circuitOf, readCircuit}
 use Rattle.circuit.specs.Theorems.{ReadsBack, OnlyWriting, SameBytes}
 use Rattle.circuit.proofs.AcceptedLaws.{Accepted, accepted, legal}
+use Rattle.circuit.proofs.GateBodyLaws.{gates-count, written-gates}
 use Rattle.circuit.proofs.ReadingLaws.{Placed, placed, Sized, head-long, gates-long}
 use Rattle.circuit.proofs.WriterLaws.{opening-length}
 
@@ -138,7 +138,7 @@ reads-back c l =
       head-back c l,
       gates-body c l,
       below-all (gateFits (lineCount c) (gatesBytes (c .gates))) (length (c .gates)) (gates-fit (lineCount c) few (c .gates) (l .formed)),
-      gates-back (lineCount c) few (c .gates) (l .formed),
+      written-gates (lineCount c) few (c .gates) (l .formed),
     )
 
 module _ (f : List ℕ) (bytes : Bytes f) (c : Circuit) (a : Accepted f c) where
@@ -152,9 +152,12 @@ module _ (f : List ℕ) (bytes : Bytes f) (c : Circuit) (a : Accepted f c) where
   only-held : c ≡ held
   only-held = a .is ∙ ap (λ (h : CircuitHead). circuitOf h (bodyOf f 1)) (a .headed .is)
 
+  counted : length (bodyOf f 1) / 8 ≡ gatesOf f
+  counted = omega (arith, gates-long f (in-order .laid), in-order .eights)
+
   held-count : length (held .gates) ≡ gatesOf f
   unfolding circuitOf headIn
-  held-count = tabulate-length (gateAt (bodyOf f 1)) (gatesOf f)
+  held-count = omega (arith, gates-count (bodyOf f 1), counted)
 
   -- a body is bytes
   body-bytes : (i : ℕ) → Bytes (bodyOf f i)
@@ -178,6 +181,7 @@ module _ (f : List ℕ) (bytes : Bytes f) (c : Circuit) (a : Accepted f c) where
       gates-only (headLines (headIn f)) (bodyOf f 1) (gatesOf f) (body-bytes 1)
       (gates-long f (in-order .laid) ∙ in-order .eights)
       (subst (λ (h : CircuitHead). (i : ℕ) → i < h .gates → gateFits (headLines h) (bodyOf f 1) i ≡ true) (a .headed .is) (a .gates-fit))
+      ∙ ap (λ (k : ℕ). gatesBytes (tabulate (gateAt (bodyOf f 1)) k)) (sym counted)
 
   -- the bodies are all that stands behind the table
   only-bodies : drop (tableLength 2) f ≡ bodyOf f 0 ++ bodyOf f 1

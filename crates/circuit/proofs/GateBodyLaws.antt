@@ -9,7 +9,10 @@ use Rattle.wire.proofs.ListLaws.{drop-next, take-next, tabulate-length, tabulat
 use Rattle.gate.specs.declared.gates.Gate.{Gate}
 use Rattle.gate.specs.declared.gates.Gate.the-variants.{Not}
 use Rattle.gate.specs.Gates.{WellFormed, All}
-use Rattle.gate.specs.GateBytes.{gateAt}
+use Rattle.wire.specs.Lists.{tabulate}
+use Rattle.gate.specs.GateBytes.{gatesBytes, gateAt}
+use Rattle.gate.proofs.ByteLaws.{gates-length}
+use Rattle.gate.proofs.ReadBackLaws.{gates-back}
 use Rattle.gate.proofs.AllLaws.{all-at}
 use Rattle.circuit.specs.Circuits.{gatesIn}
 
@@ -51,3 +54,9 @@ module _ (body : List ℕ) where
   -- a gate of a body that is well formed on L lines
   pub gate-formed : (L : ℕ) → All (WellFormed L) (gatesIn body) → (i : ℕ) → i < length body / 8 → WellFormed L (gateAt body i)
   gate-formed L w i h = rw (gates-at i h) at (all-at (WellFormed L) (gatesIn body) w i (Not 0) (omega (arith, gates-count)))
+
+-- the gates of a body that was written are those written
+pub written-gates : (L : ℕ) → L ≤ 65536 → (gs : List Gate) → All (WellFormed L) gs → gatesIn (gatesBytes gs) ≡ gs
+written-gates L few gs w =
+    let n : length (gatesBytes gs) / 8 ≡ length gs = omega (arith, gates-length gs) in
+    ap (tabulate (gateAt (gatesBytes gs))) n ∙ gates-back L few gs w

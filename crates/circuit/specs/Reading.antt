@@ -8,13 +8,12 @@ use Rattle.wire.specs.Bits.{bitsFit}
 use Rattle.wire.specs.Bytes.{at16}
 use Rattle.wire.specs.Contents.{tableFits, entriesFit, entryLength, bodyOf}
 use Rattle.wire.specs.Counts.{inputsOf, outputsOf, countsFit}
-use Rattle.wire.specs.Lists.{tabulate}
 use Rattle.wire.specs.declared.refusals.Refusal.the-variants as cause
-use Rattle.gate.specs.GateBytes.{gateAt, gateFits}
+use Rattle.gate.specs.GateBytes.{gateFits}
 use Rattle.circuit.specs.declared.reader.CircuitHead.{CircuitHead}
 use Rattle.circuit.specs.declared.reader.CircuitRead.{CircuitRead}
 use Rattle.circuit.specs.declared.reader.CircuitRead.the-variants.{Good, Refused}
-use Rattle.circuit.specs.Circuits.{Circuit, lineCount, headLines}
+use Rattle.circuit.specs.Circuits.{Circuit, lineCount, headLines, gatesIn}
 use Rattle.circuit.specs.Format.{tags, headLength}
 
 -- the number of work lines, w, as read
@@ -49,7 +48,7 @@ readHead f =
 -- the circuit of a head and a gate body
 unfoldable pub circuitOf : CircuitHead → List ℕ → Circuit
 circuitOf h body =
-    record { inputs = h .inputs; outputs = h .outputs; work = h .work; gates = tabulate (gateAt body) (h .gates) }
+    record { inputs = h .inputs; outputs = h .outputs; work = h .work; gates = gatesIn body }
 
 -- what reading a circuit file gives
 unfoldable pub readCircuit : List ℕ → Answer Circuit

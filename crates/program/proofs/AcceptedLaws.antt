@@ -1,5 +1,5 @@
 -- What an accepted program file holds. Assumes nothing.
-use Prim.Native.Nat.{ℕ, _<_, _≤_}
+use Prim.Native.Nat.{ℕ, _/_, _<_, _≤_}
 use native.Mathlib.Omega.{arith}
 use mathlib.Core.Path.{_≡_, refl, sym, ap, _∙_}
 use mathlib.Core.Bool.{Bool, true, _&&_}
@@ -11,7 +11,6 @@ use Rattle.wire.specs.Answers.{Answer, result, refuse, check, mapAnswer, number
 use Rattle.wire.specs.Checks.{allBelow, lowest}
 use Rattle.wire.specs.Contents.{tableFits, entriesFit, bodyOf}
 use Rattle.wire.specs.Counts.{inputsOf, outputsOf, countsFit}
-use Rattle.wire.specs.Lists.{tabulate}
 use Rattle.wire.specs.declared.refusals.Refusal.{Refusal}
 use Rattle.wire.specs.declared.refusals.Refusal.the-variants as cause
 use Rattle.wire.proofs.AnswerLaws.{checked, checked-next, came, came-refused, Never, never-result, never-check}
@@ -127,16 +126,16 @@ reader-room f =
 module _ (f : List ℕ) (a : Accepted f) where
   pub nodes-length : length (programOf f .nodes) ≡ nodesOf f
   unfolding programOf
-  nodes-length = tabulate-length (nodeAt (bodyOf f 1)) (nodesOf f)
+  nodes-length = tabulate-length (nodeAt (bodyOf f 1)) (length (bodyOf f 1) / 6) ∙ nodes-counted f (a .sized)
 
   -- they are the nodes of the node body
   pub same-nodes : nodesIn (bodyOf f 1) ≡ programOf f .nodes
   unfolding programOf
-  same-nodes = ap (tabulate (nodeAt (bodyOf f 1))) (nodes-counted f (a .sized))
+  same-nodes = refl
 
   pub node-is : (i : ℕ) → i < nodesOf f → getD (programOf f .nodes) i Zero ≡ nodeAt (bodyOf f 1) i
   unfolding programOf
-  node-is i h = tabulate-at (nodeAt (bodyOf f 1)) (nodesOf f) i Zero h
+  node-is i h = tabulate-at (nodeAt (bodyOf f 1)) (length (bodyOf f 1) / 6) i Zero (omega (arith, nodes-counted f (a .sized)))
 
   pub outputs-length : length (programOf f .outputs) ≡ outputsOf f
   unfolding programOf

@@ -83,9 +83,9 @@ module _ (f : List ℕ) where
         ∙ ap (lowest (outputFits (nodesOf f) (bodyOf f 2))) outputs-counted
 
 -- the head that the reader answers is the program's
-pub head-of : (f : List ℕ) {n m k : ℕ} → n ≡ inputsOf f → m ≡ outputsOf f → k ≡ nodesOf f → _≡_ {A = Answer Head} (result (record { inputs = n; outputs = m; nodes = k })) (result (headOf (programOf f)))
+pub head-of : (f : List ℕ) {n m k : ℕ} → Sized f → n ≡ inputsOf f → m ≡ outputsOf f → k ≡ nodesOf f → _≡_ {A = Answer Head} (result (record { inputs = n; outputs = m; nodes = k })) (result (headOf (programOf f)))
 unfolding programOf
-head-of f {n} {m} {k} a b c =
-    let ls = tabulate-length (nodeAt (bodyOf f 1)) (nodesOf f) in
+head-of f {n} {m} {k} s a b c =
+    let ls = tabulate-length (nodeAt (bodyOf f 1)) (length (bodyOf f 1) / 6) ∙ nodes-counted f s in
     let os = tabulate-length (outputAt (bodyOf f 2)) (outputsOf f) in
     cc

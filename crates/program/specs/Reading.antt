@@ -12,7 +12,7 @@ use Rattle.wire.specs.declared.refusals.Refusal.the-variants as cause
 use Rattle.program.specs.declared.reader.Head.{Head}
 use Rattle.program.specs.declared.reader.ProgramRead.{ProgramRead}
 use Rattle.program.specs.declared.reader.ProgramRead.the-variants.{Good, Refused}
-use Rattle.program.specs.Nodes.{nodeAt, nodeFits}
+use Rattle.program.specs.Nodes.{nodesIn, nodeFits}
 use Rattle.program.specs.Programs.{Program}
 
 -- the tags of the three bodies: inputs and outputs, nodes, outputs' nodes
@@ -43,7 +43,7 @@ unfoldable pub programOf : List ℕ → Program
 programOf f =
     record {
       inputs = inputsOf f;
-      nodes = tabulate (nodeAt (bodyOf f 1)) (nodesOf f);
+      nodes = nodesIn (bodyOf f 1);
       outputs = tabulate (outputAt (bodyOf f 2)) (outputsOf f);
     }
 

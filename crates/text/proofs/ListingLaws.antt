@@ -1,5 +1,5 @@
 -- Laws of a listing: how long it is, and that the gates in the area are those of the circuit. Assumes nothing.
-use Prim.Native.Nat.{ℕ, _+_, _*_, _/_, _≤_}
+use Prim.Native.Nat.{ℕ, _+_, _*_, _≤_}
 use native.Mathlib.Omega.{arith}
 use mathlib.Core.Path.{_≡_, refl, sym, ap, ap₂, _∙_}
 use mathlib.Core.List.{List, [], _∷_, _++_, append-nil, append-assoc, flatMap}
@@ -8,14 +8,13 @@ use lib.Seq.{sets-eq, take-at, drop-at}
 use Rattle.io.specs.Counts.{Counts}
 use Rattle.io.proofs.Counting.{counts}
 use Rattle.wire.specs.Answers.{Answer, result, refused, numberOf, placeOf, mapAnswer}
-use Rattle.wire.specs.Lists.{tabulate}
 use Rattle.wire.proofs.AnswerLaws.{came, came-refused}
 use Rattle.gate.specs.declared.gates.Gate.{Gate}
 use Rattle.gate.specs.declared.gates.Gate.the-variants.{Not, Cnot, Toffoli}
 use Rattle.gate.specs.Gates.{WellFormed, All}
-use Rattle.gate.specs.GateBytes.{gatesBytes, gateAt}
+use Rattle.gate.specs.GateBytes.{gatesBytes}
 use Rattle.gate.proofs.ByteLaws.{gates-length}
-use Rattle.gate.proofs.ReadBackLaws.{gates-back}
+use Rattle.circuit.proofs.GateBodyLaws.{written-gates}
 use Rattle.gate.proofs.WellFormedLaws.{CnotLines, ToffoliLines, not-line, cnot-lines, toffoli-lines}
 use Rattle.circuit.specs.declared.reader.CircuitHead.{CircuitHead}
 use Rattle.circuit.specs.Circuits.{Circuit, Legal, lineCount, headOf, gatesIn}
@@ -126,8 +125,7 @@ body-gates c l rest =
     ap (λ (s : List ℕ). bodyIn s k) (append-assoc opening bytes rest)
     ∙ ap (take (8 * k)) (drop-at opening (bytes ++ rest) firstGate (opening-length (headOf c)))
     ∙ take-at bytes rest (8 * k) (gates-length (c .gates)) in
-    let count : length bytes / 8 ≡ k = omega (arith, gates-length (c .gates)) in
-    ap gatesIn body ∙ ap (tabulate (gateAt bytes)) count ∙ gates-back (lineCount c) (omega arith) (c .gates) (l .formed)
+    ap gatesIn body ∙ written-gates (lineCount c) (omega arith) (c .gates) (l .formed)
 
 -- what the service compile answers and leaves in the area, where compiling gives x
 module _ (x : Answer Circuit) (legal : LegalResult x) (area₀ : List ℕ) where

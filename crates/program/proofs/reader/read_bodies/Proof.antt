@@ -115,7 +115,7 @@ unfolding readBodies programOf
 returns-3 c =
     let right = sym (node (c .before .before .before .before)) ∙ c .before .before .before .if1 .left ∙ nodes (c .before .before .before .before .before .before) in
     let right₂ = sym (output (c .before)) ∙ c .if2 .left ∙ outputs (c .before .before .before .before .before .before .before) in
-    simp (eq-eqb _ _ right, eq-eqb _ _ right₂) (head-of (c .before .before .before .before .before .before .before .before .before .before .before .args .file .now) (inputs (c .before .before .before .before .before .before .before .before)) (outputs (c .before .before .before .before .before .before .before)) (nodes (c .before .before .before .before .before .before)))
+    simp (eq-eqb _ _ right, eq-eqb _ _ right₂) (head-of (c .before .before .before .before .before .before .before .before .before .before .before .args .file .now) (order (c .before .before .before .before .before .before .before .before .before .before .before .pre)) (inputs (c .before .before .before .before .before .before .before .before)) (outputs (c .before .before .before .before .before .before .before)) (nodes (c .before .before .before .before .before .before)))
 
 pub read-bodies-spec : {M : Type 1} → statement M
 read-bodies-spec =
