@@ -12,7 +12,7 @@ use Rattle.program.specs.Nodes.{nodeAt, nodesIn}
 use Rattle.program.specs.Reading.{outputAt}
 use Rattle.program.specs.Trees.{trees, treeOf}
 use Rattle.program.specs.Steps.{NodeOk}
-use Rattle.program.proofs.TreeLaws.{trees-at}
+use Rattle.program.proofs.TreeLaws.{trees-at, node-in, node-inside}
 use Rattle.construct.specs.Tables.{treeIn, treesIn, Valid}
 
 -- an operand of node i: lower, and no larger when it is unfolded
@@ -34,10 +34,10 @@ pub record Binary (join : Expr → Expr → Expr) (nodes : List ℕ) (i a b : �
 
 module _ {nodes : List ℕ} {i : ℕ} (v : Valid nodes i) where
   there : getD (nodesIn nodes) i Zero ≡ nodeAt nodes i
-  there = tabulate-at (nodeAt nodes) (length nodes / 6) i Zero (v .inside)
+  there = node-in nodes i (v .inside)
 
   inside : i < length (nodesIn nodes)
-  inside = omega (arith, v .inside, tabulate-length (nodeAt nodes) (length nodes / 6))
+  inside = node-inside nodes i (v .inside)
 
   -- its six bytes are there
   pub node-there : 6 * (i + 1) ≤ length nodes

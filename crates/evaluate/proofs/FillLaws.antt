@@ -7,22 +7,20 @@ use lib.ListN.{length, take}
 use lib.Seq.{length-take-le, getD-take}
 use Rattle.wire.specs.Bits.{bit, Bits}
 use Rattle.wire.proofs.FillLaws.{Filled, filled-front}
-use Rattle.wire.proofs.ListLaws.{tabulate-length}
-use Rattle.program.specs.Nodes.{nodeAt, nodesIn}
+use Rattle.program.specs.Nodes.{nodesIn}
 use Rattle.program.specs.Programs.{nodeValues}
 use Rattle.program.specs.Steps.{Fillable}
-use Rattle.program.proofs.ValueLaws.{values-length, values-bits}
+use Rattle.program.specs.Exprs.{value}
+use Rattle.program.proofs.FilledLaws.{entries-count}
+use Rattle.program.proofs.ValueLaws.{values-bits}
 
 module _ (body x : List ℕ) where
-  -- there is a value for each node of the body
-  values-count : length (nodeValues (nodesIn body) x) ≡ length body / 6
-  values-count = values-length (nodesIn body) x ∙ tabulate-length (nodeAt body) (length body / 6)
-
   -- a loop has stored the values of the first i nodes
   module _ {list₀ list : List ℕ} {i : ℕ} (p : Filled (nodeValues (nodesIn body) x) list₀ list i) (f : Fillable (length x) body (length list₀)) (h : i < length body / 6) where
     -- they are bits
     pub front-bits : Bits x → Bits (take i list)
+    unfolding nodeValues
     front-bits bits k q =
         let l : length (take i list) ≡ i = length-take-le i list (omega (arith, p .same, f .fits)) in
         let e : bit (take i list) k ≡ bit (nodeValues (nodesIn body) x) k = ap (λ (l : List ℕ). bit l k) (filled-front p) ∙ getD-take i (nodeValues (nodesIn body) x) k 0 (omega (arith, l)) in
-        rw e (values-bits (nodesIn body) x bits k (omega (arith, l, values-count)))
+        rw e (values-bits (nodesIn body) x bits k (omega (arith, l, entries-count (λ e. value e x) body)))

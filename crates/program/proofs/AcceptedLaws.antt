@@ -1,5 +1,5 @@
 -- What an accepted program file holds. Assumes nothing.
-use Prim.Native.Nat.{ℕ, _/_, _<_, _≤_}
+use Prim.Native.Nat.{ℕ, _<_, _≤_}
 use native.Mathlib.Omega.{arith}
 use mathlib.Core.Path.{_≡_, refl, sym, ap, _∙_}
 use mathlib.Core.Bool.{Bool, true, _&&_}
@@ -29,7 +29,7 @@ use Rattle.program.specs.Steps.{TableOk}
 use Rattle.program.specs.Exprs.{ZERO, InputsBelow}
 use Rattle.program.proofs.NodeLaws.{node-ok}
 use Rattle.program.proofs.ReadingLaws.{Sized, sized, nodes-counted}
-use Rattle.program.proofs.TreeLaws.{trees-below}
+use Rattle.program.proofs.TreeLaws.{trees-below, nodes-count, node-in}
 
 -- an accepted file: every test held
 pub record Accepted (f : List ℕ) : Type 0 where
@@ -126,7 +126,7 @@ reader-room f =
 module _ (f : List ℕ) (a : Accepted f) where
   pub nodes-length : length (programOf f .nodes) ≡ nodesOf f
   unfolding programOf
-  nodes-length = tabulate-length (nodeAt (bodyOf f 1)) (length (bodyOf f 1) / 6) ∙ nodes-counted f (a .sized)
+  nodes-length = nodes-count (bodyOf f 1) ∙ nodes-counted f (a .sized)
 
   -- they are the nodes of the node body
   pub same-nodes : nodesIn (bodyOf f 1) ≡ programOf f .nodes
@@ -135,7 +135,7 @@ module _ (f : List ℕ) (a : Accepted f) where
 
   pub node-is : (i : ℕ) → i < nodesOf f → getD (programOf f .nodes) i Zero ≡ nodeAt (bodyOf f 1) i
   unfolding programOf
-  node-is i h = tabulate-at (nodeAt (bodyOf f 1)) (length (bodyOf f 1) / 6) i Zero (omega (arith, nodes-counted f (a .sized)))
+  node-is i h = node-in (bodyOf f 1) i (omega (arith, nodes-counted f (a .sized)))
 
   pub outputs-length : length (programOf f .outputs) ≡ outputsOf f
   unfolding programOf

@@ -14,9 +14,10 @@ use Rattle.wire.specs.Counts.{inputsOf, outputsOf}
 use Rattle.wire.proofs.CheckLaws.{both-first, both-second}
 use Rattle.wire.proofs.ContentsLaws.{body-length}
 use Rattle.wire.proofs.ListLaws.{tabulate-length}
+use Rattle.program.proofs.TreeLaws.{nodes-count}
 use Rattle.wire.specs.Answers.{Answer, result}
 use Rattle.program.specs.declared.reader.Head.{Head}
-use Rattle.program.specs.Nodes.{nodeAt, nodeFits}
+use Rattle.program.specs.Nodes.{nodeFits}
 use Rattle.program.specs.Programs.{headOf}
 use Rattle.program.specs.Reading.{nodesOf, lengthsFit, outputAt, outputFits, programOf}
 
@@ -86,6 +87,6 @@ module _ (f : List ℕ) where
 pub head-of : (f : List ℕ) {n m k : ℕ} → Sized f → n ≡ inputsOf f → m ≡ outputsOf f → k ≡ nodesOf f → _≡_ {A = Answer Head} (result (record { inputs = n; outputs = m; nodes = k })) (result (headOf (programOf f)))
 unfolding programOf
 head-of f {n} {m} {k} s a b c =
-    let ls = tabulate-length (nodeAt (bodyOf f 1)) (length (bodyOf f 1) / 6) ∙ nodes-counted f s in
+    let ls = nodes-count (bodyOf f 1) ∙ nodes-counted f s in
     let os = tabulate-length (outputAt (bodyOf f 2)) (outputsOf f) in
     cc

@@ -98,13 +98,17 @@ pub trees-below : (n : ℕ) (ns : List Node) → TableOk n ns → (i : ℕ) → 
 unfolding trees
 trees-below n ns w i = each-at n (treesFrom [] ns) (from-below n 0 [] ns (λ k p. rw (zero-add k) (w k p)) tt) i
 
+-- a node body has a node for every six bytes
+pub nodes-count : (body : List ℕ) → length (nodesIn body) ≡ length body / 6
+nodes-count body = tabulate-length (nodeAt body) (length body / 6)
+
 -- node i of a node body
 module _ (body : List ℕ) (i : ℕ) (h : i < length body / 6) where
   pub node-in : getD (nodesIn body) i Zero ≡ nodeAt body i
   node-in = tabulate-at (nodeAt body) (length body / 6) i Zero h
 
   pub node-inside : i < length (nodesIn body)
-  node-inside = omega (arith, tabulate-length (nodeAt body) (length body / 6))
+  node-inside = omega (arith, nodes-count body)
 
   -- it is in order behind a list with an entry for each node before it
   pub next-ok : {n entries : ℕ} (list : List ℕ) → Fillable n body entries → length list ≡ entries → NodeOk n (length (take i list)) (nodeAt body i)

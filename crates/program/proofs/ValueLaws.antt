@@ -3,7 +3,7 @@ use Prim.Native.Nat.{ℕ, _*_, _<_}
 use native.Mathlib.Omega.{arith}
 use mathlib.Core.Path.{_≡_, ap, ap₂, _∙_}
 use mathlib.Core.List.{List, map}
-use lib.ListN.{length, getD, length-map, List·getD-map}
+use lib.ListN.{length, getD, List·getD-map}
 use Rattle.wire.specs.Bits.{xorBit, bit, Bits}
 use Rattle.wire.proofs.BitLaws.{xor-bit, and-bit, bit-below}
 use Rattle.program.specs.declared.node.Node.{Node}
@@ -11,7 +11,7 @@ use Rattle.program.specs.declared.node.Node.the-variants.{Not, Xor, And}
 use Rattle.program.specs.Exprs.{Expr, ZERO, ONE, INPUT, NOT, XOR, AND, value}
 use Rattle.program.specs.Programs.{nodeValues}
 use Rattle.program.specs.Trees.{treeOf, trees}
-use Rattle.program.proofs.TreeLaws.{length-trees}
+use Rattle.program.proofs.FilledLaws.{entries-length}
 
 -- a value is a bit
 pub value-bit : (e : Expr) (x : List ℕ) → Bits x → value e x < 2
@@ -26,7 +26,7 @@ value-bit (AND a b) x h = and-bit (value a x) (value b x) (value-bit a x h) (val
 -- there is a value for each node, and it is its tree's
 pub values-length : (ns : List Node) (x : List ℕ) → length (nodeValues ns x) ≡ length ns
 unfolding nodeValues
-values-length ns x = length-map (trees ns) (λ e. value e x) ∙ length-trees ns
+values-length ns x = entries-length (λ e. value e x) ns
 
 pub values-at : (ns : List Node) (x : List ℕ) (i : ℕ) → getD (nodeValues ns x) i 0 ≡ value (getD (trees ns) i ZERO) x
 unfolding nodeValues value

@@ -9,13 +9,14 @@ use lib.Dec.{leb}
 use borrow.Author.Tests.{leb-true, leb-false, le-leb, lt-leb}
 use Rattle.wire.specs.Checks.{lowest}
 use Rattle.wire.proofs.CheckLaws.{by-test, lowest-same}
-use Rattle.wire.proofs.ListLaws.{map-at, tabulate-length}
+use Rattle.wire.proofs.ListLaws.{map-at}
 use Rattle.program.specs.declared.node.Node.{Node}
 use Rattle.program.specs.declared.node.Node.the-variants.{Not, Xor, And}
 use Rattle.program.specs.Exprs.{Expr, ZERO, size}
-use Rattle.program.specs.Nodes.{nodeAt, nodesIn}
+use Rattle.program.specs.Nodes.{nodesIn}
 use Rattle.program.specs.Reading.{outputAt}
 use Rattle.program.specs.Trees.{treeOf, trees}
+use Rattle.program.proofs.TreeLaws.{nodes-count}
 use Rattle.program.proofs.FilledLaws.{entries-length, entry-at}
 use Rattle.sizing.specs.Sizing.{shown, nodeSizes}
 use Rattle.sizing.specs.Steps.{entryFits}
@@ -65,15 +66,12 @@ module _ (sizes outputs : List ℕ) (k : ℕ) {i : ℕ} (e : i ≡ outputAt outp
   entry-large h = lt-leb (getD sizes (outputAt outputs k) 0) 16384 (rw e at h)
 
 module _ (body : List ℕ) where
-  nodes-count : length (nodesIn body) ≡ length body / 6
-  nodes-count = tabulate-length (nodeAt body) (length body / 6)
-
   -- the lowest output whose entry is too large is the lowest whose tree is
   pub sizes-lowest : (outputs rest : List ℕ) (k : ℕ) → ((j : ℕ) → j < k → outputAt outputs j < length body / 6)
       → lowest (entryFits (nodeSizes (nodesIn body) ++ rest) outputs) k ≡ lowest (λ j. leb (size (getD (trees (nodesIn body)) (outputAt outputs j) ZERO)) 16384) k
   sizes-lowest outputs rest k named =
       let ns : List Node = nodesIn body in
       let entry : (i : ℕ) → i < length body / 6 → getD (nodeSizes ns ++ rest) i 0 ≡ shown (size (getD (trees (nodesIn body)) i ZERO)) =
-      λ i h. List·getD-append (nodeSizes ns) rest 0 i (omega (arith, sizes-length ns, nodes-count)) ∙ sizes-at ns i (omega (arith, nodes-count)) in
+      λ i h. List·getD-append (nodeSizes ns) rest 0 i (omega (arith, sizes-length ns, nodes-count body)) ∙ sizes-at ns i (omega (arith, nodes-count body)) in
       lowest-same (entryFits (nodeSizes ns ++ rest) outputs) (λ (j : ℕ). leb (size (getD (trees (nodesIn body)) (outputAt outputs j) ZERO)) 16384) k
       (λ j h. ap (λ (s : ℕ). leb s 16384) (entry (outputAt outputs j) (named j h)) ∙ size-within (size (getD (trees (nodesIn body)) (outputAt outputs j) ZERO)))
