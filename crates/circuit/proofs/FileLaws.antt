@@ -11,7 +11,7 @@ use Rattle.wire.specs.Answers.{result}
 use Rattle.wire.specs.Bytes.{at16, bytes16, Bytes}
 use Rattle.wire.specs.Contents.{tableLength, tableFits, entriesFit, entryStart, entryLength, bodyOf, contentsBytes}
 use Rattle.wire.specs.Steps.{total}
-use Rattle.wire.specs.Counts.{inputsOf, outputsOf, countsFit}
+use Rattle.wire.specs.Arity.{inputsOf, outputsOf, arityFits}
 use Rattle.wire.specs.Lists.{tabulateFrom, tabulate}
 use Rattle.wire.proofs.ByteLaws.{number16, bytes-take, bytes-drop, drop16}
 use Rattle.wire.proofs.CheckLaws.{below-all}
@@ -114,7 +114,7 @@ module _ (c : Circuit) (l : Legal c) where
       )
 
   ranges-back : rangesFit (circuitFile c) ≡ true
-  unfolding rangesFit countsFit
+  unfolding rangesFit arityFits
   ranges-back =
       let f : List ℕ = circuitFile c in
       rw (

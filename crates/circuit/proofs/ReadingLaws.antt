@@ -11,7 +11,7 @@ use Rattle.wire.specs.Answers.{Answer, result, check}
 use Rattle.wire.specs.Checks.{lowest}
 use Rattle.wire.specs.Contents.{tableLength, tableFits, entriesFit, entryStart, entryLength, bodyOf}
 use Rattle.wire.specs.Steps.{Laid}
-use Rattle.wire.specs.Counts.{inputsOf, outputsOf, countsFit}
+use Rattle.wire.specs.Arity.{inputsOf, outputsOf, arityFits}
 use Rattle.wire.specs.declared.refusals.Refusal.the-variants as cause
 use Rattle.wire.proofs.AnswerLaws.{checked, checked-next, same-result}
 use Rattle.wire.proofs.CheckLaws.{both-first, both-second}
@@ -45,7 +45,7 @@ module _ (f : List ℕ) where
   lengths-tests p₀ p₁ t₁ t₀ =
       t₀ ∙ ap₂ _&&_ (ap (λ (e : ℕ). eqb e headLength) p₀) (t₁ ∙ ap (λ (e : ℕ). eqb (e % 8) 0 && leb (e / 8) 8000) p₁)
 
-  pub ranges-tests : {w : ℕ} {counts r : Bool} → counts ≡ countsFit (bodyOf f 0) → w ≡ workOf f
+  pub ranges-tests : {w : ℕ} {counts r : Bool} → counts ≡ arityFits (bodyOf f 0) → w ≡ workOf f
       → r ≡ (counts && leb w 1024)
       → r ≡ rangesFit f
   unfolding rangesFit
@@ -86,7 +86,7 @@ module _ (f : List ℕ) where
 
   -- the numbers of a file that passes cause 4
   pub ranged : gatesOf f ≤ 8000 → rangesFit f ≡ true → InRange (headIn f)
-  unfolding rangesFit countsFit headIn
+  unfolding rangesFit arityFits headIn
   ranged few e =
       let n : Bool = leb (inputsOf f) 64 in
       let m₁ : Bool = leb 1 (outputsOf f) in

@@ -9,7 +9,7 @@ use lib.Seq.{sets, length-sets, sets-eq}
 use Rattle.wire.specs.Answers.{result}
 use Rattle.wire.specs.Bytes.{bytes16}
 use Rattle.wire.specs.Contents.{tableLength, contentsBytes}
-use Rattle.wire.specs.Steps.{total, Writable}
+use Rattle.wire.specs.Steps.{total, WritableTable}
 use Rattle.wire.proofs.FillLaws.{Filled, filled-next, filled-all}
 use Rattle.wire.proofs.ListLaws.{sets-then}
 use Rattle.wire.proofs.WrittenLaws.{contents-length}
@@ -26,7 +26,7 @@ abbrev lengths : CircuitHead → List ℕ
 lengths h = headLength ∷ 8 * h .gates ∷ []
 
 -- the table of contents of a circuit file can be written
-pub writable : (h : CircuitHead) (room : ℕ) → InRange h → fileLength 0 ≤ room → Writable tags (lengths h) room
+pub writable : (h : CircuitHead) (room : ℕ) → InRange h → fileLength 0 ≤ room → WritableTable tags (lengths h) room
 unfolding total
 writable h room s r = record { paired = refl; few = omega arith; fits = omega arith; small = omega (arith, s .gates-most) }
 

@@ -7,7 +7,7 @@ use Rattle.wire.specs.Answers.{Answer, result, refuse, check, checkEach, andThe
 use Rattle.wire.specs.Bits.{bitsFit}
 use Rattle.wire.specs.Bytes.{at16}
 use Rattle.wire.specs.Contents.{tableFits, entriesFit, entryLength, bodyOf}
-use Rattle.wire.specs.Counts.{inputsOf, outputsOf, countsFit}
+use Rattle.wire.specs.Arity.{inputsOf, outputsOf, arityFits}
 use Rattle.wire.specs.declared.refusals.Refusal.the-variants as cause
 use Rattle.gate.specs.GateBytes.{gateFits}
 use Rattle.circuit.specs.declared.reader.CircuitHead.{CircuitHead}
@@ -30,7 +30,7 @@ lengthsFit f = eqb (entryLength f 0) headLength && (eqb (entryLength f 1 % 8) 0 
 
 -- the test of cause 4: at most 64 inputs, 1 to 64 outputs, at most 1,024 work lines
 unfoldable pub rangesFit : List ℕ → Bool
-rangesFit f = countsFit (bodyOf f 0) && leb (workOf f) 1024
+rangesFit f = arityFits (bodyOf f 0) && leb (workOf f) 1024
 
 -- the numbers that a file in order holds
 unfoldable pub headIn : List ℕ → CircuitHead

@@ -3,13 +3,13 @@
 use crate::layout::HEAD_LENGTH;
 use gate::gates::GateRead;
 use gate::gates::read_gate;
+use wire::arity::arity_fits;
 use wire::bits::bits_fit;
 use wire::checks::both;
 use wire::contents::body;
 use wire::contents::entries_fit;
 use wire::contents::entry_length;
 use wire::contents::table_fits;
-use wire::counts::counts_fit;
 use wire::numbers::get16;
 use wire::refusals::Refusal;
 ghost use mathlib.Core.Path.{_≡_};
@@ -62,7 +62,7 @@ fn ranges_fit(file: &[u8]) -> bool
     ensures { λ r. ⌜ r ≡ rangesFit (now (file .entry)) ⌝ }
 {
     let head = body(file, 0);
-    both(counts_fit(head), get16(head, 4) <= 1024)
+    both(arity_fits(head), get16(head, 4) <= 1024)
 }
 
 // The numbers that the head and the length of the gate body give.

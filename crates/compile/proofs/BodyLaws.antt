@@ -1,7 +1,7 @@
 -- Laws of the bodies of an accepted program file: their trees are the program's, and so are the counts. Assumes nothing.
 use Prim.Native.Nat.{ℕ, _/_, _<_, _≤_}
 use native.Mathlib.Omega.{arith}
-use mathlib.Core.Path.{_≡_, sym, ap, ap₂, _∙_}
+use mathlib.Core.Path.{_≡_, refl, sym, ap, ap₂, _∙_}
 use mathlib.Core.List.{List}
 use lib.ListN.{length, getD}
 use Rattle.wire.specs.Contents.{bodyOf}
@@ -14,19 +14,20 @@ use Rattle.program.specs.declared.node.Node.{Node}
 use Rattle.program.specs.Exprs.{Expr, ZERO, size}
 use Rattle.program.specs.Nodes.{nodesIn}
 use Rattle.program.specs.Programs.{outputTree}
-use Rattle.wire.specs.Counts.{inputsOf}
+use Rattle.wire.specs.Arity.{inputsOf}
 use Rattle.program.specs.Reading.{outputAt, programOf}
 use Rattle.program.specs.Trees.{trees}
 use Rattle.program.specs.Steps.{TableOk}
 use Rattle.program.proofs.AcceptedLaws.{Accepted, same-nodes, outputs-length, output-is, table-ok}
 use Rattle.program.proofs.ReadingLaws.{nodes-counted, outputs-counted}
 use Rattle.construction.specs.Construction.{circuit, linesNeeded}
-use Rattle.construction.specs.Counting.{sharesCount, gatesShown}
+use Rattle.construction.specs.Counting.{gatesShown}
+use Rattle.construction.specs.Steps.{sharesCount}
 use Rattle.construction.proofs.CountLaws.{circuit-length}
 use Rattle.construct.specs.declared.counter.Needs.{Needs}
 use Rattle.construct.specs.Counters.{AllCountable, Needed}
 use Rattle.construct.specs.Tables.{treeIn, treesIn}
-use Rattle.construct.specs.Writing.{Writable}
+use Rattle.construct.specs.Writing.{CircuitRoom}
 use Rattle.compile.specs.Compiling.{outputTrees, programCircuit}
 
 module _ (f : List ℕ) (a : Accepted f) where
@@ -56,6 +57,10 @@ module _ (f : List ℕ) (a : Accepted f) where
       tabulate-same (λ k. treeIn (bodyOf f 1) (outputAt (bodyOf f 2) k)) (outputTree (programOf f)) (length (bodyOf f 2) / 2) tree-same
       ∙ ap (tabulate (outputTree (programOf f))) outputs-count
 
+  inputs-same : inputsOf f ≡ programOf f .inputs
+  unfolding programOf
+  inputs-same = refl
+
   -- where no output is too large the shares can be counted
   pub countable : ((k : ℕ) → k < length (programOf f .outputs) → size (outputTree (programOf f) k) ≤ 16384) → AllCountable (bodyOf f 1) (bodyOf f 2)
   countable small =
@@ -72,7 +77,7 @@ module _ (f : List ℕ) (a : Accepted f) where
   module _ {r : Needs} (n : Needed (treesIn (bodyOf f 1) (bodyOf f 2)) r) where
     pub lines-counted : r .lines ≡ programCircuit (programOf f) .work
     unfolding programCircuit
-    lines-counted = n .lines-are ∙ ap linesNeeded trees-same
+    lines-counted = n .lines-are (programOf f .inputs) ∙ ap (linesNeeded (programOf f .inputs)) trees-same
 
     pub gates-counted : r .gates ≡ gatesShown (length (programCircuit (programOf f) .gates))
     unfolding programCircuit
@@ -83,7 +88,7 @@ module _ (f : List ℕ) (a : Accepted f) where
 
   -- a head whose numbers are in range fits, with the program's gates, into an area that is long enough
   pub fitting : (h : CircuitHead) (area : List ℕ) → h .inputs ≡ inputsOf f → 1 ≤ h .outputs → h .outputs ≤ 64 → h .work ≤ 1024 → h .gates ≤ 8000
-      → programCircuit (programOf f) .work ≤ 1024 → fileLength (length (programCircuit (programOf f) .gates)) ≤ length area → InRange h × Writable (bodyOf f 1) (bodyOf f 2) (h .inputs) area
+      → programCircuit (programOf f) .work ≤ 1024 → fileLength (length (programCircuit (programOf f) .gates)) ≤ length area → InRange h × CircuitRoom (bodyOf f 1) (bodyOf f 2) (h .inputs) area
   unfolding programCircuit
   fitting h area n some most w g lines room =
       let length-is : length (circuit (programOf f .inputs) (outputTrees (programOf f))) ≡ sharesCount (outputTrees (programOf f)) = circuit-length (programOf f .inputs) (outputTrees (programOf f)) in (
@@ -91,11 +96,11 @@ module _ (f : List ℕ) (a : Accepted f) where
         record {
           ordered = rw n nodes-ordered;
           named = names-node;
-          lines = omega (arith, n, a .inputs-most, a .outputs-most, outputs-counted f (a .sized), ap linesNeeded trees-same);
+          lines = rw n (omega (arith, a .inputs-most, a .outputs-most, outputs-counted f (a .sized), ap₂ linesNeeded inputs-same trees-same));
           room = omega (arith, ap sharesCount trees-same, length-is);
         },
       )
 
 -- an area of the same length can be written as well
-pub writable-same : {nodes outputs area after : List ℕ} {n : ℕ} → Writable nodes outputs n area → length after ≡ length area → Writable nodes outputs n after
+pub writable-same : {nodes outputs area after : List ℕ} {n : ℕ} → CircuitRoom nodes outputs n area → length after ≡ length area → CircuitRoom nodes outputs n after
 writable-same w e = record { ordered = w .ordered; named = w .named; lines = w .lines; room = omega (arith, w .room) }

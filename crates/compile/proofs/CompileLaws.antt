@@ -23,7 +23,7 @@ use Rattle.program.proofs.AcceptedLaws.{Read, reader-room, nodes-length, same-n
 use Rattle.program.proofs.ReadingLaws.{nodes-counted}
 use Rattle.sizing.specs.Sizing.{nodeSizes}
 use Rattle.program.specs.Steps.{Fillable}
-use Rattle.wire.specs.Counts.{inputsOf}
+use Rattle.wire.specs.Arity.{inputsOf}
 use Rattle.compile.proofs.BodyLaws.{nodes-ordered}
 use Rattle.compile.specs.Compiling.{compileProgram, readWithSizes, compileFile, sizesAfter, compileOf}
 use Rattle.compile.specs.Steps.{Listed}

@@ -21,7 +21,7 @@ use Rattle.program.specs.Programs.{Program, headOf, outputValue}
 use Rattle.program.specs.Reading.{programOf}
 use Rattle.program.proofs.AcceptedLaws as program
 use Rattle.construction.specs.Construction.{shares}
-use Rattle.construction.specs.Theorems.{Start, After, SharesRestore}
+use Rattle.construction.specs.Theorems.{Start, firstBuilt, After, SharesRestore}
 use Rattle.construction.proofs.RestoreLaws.{shares-restore}
 use Rattle.evaluate.specs.Evaluating.{evaluateOf}
 use Rattle.evaluate.proofs.EvaluateLaws.{output-answered}
@@ -52,7 +52,7 @@ module _ (f : List ℕ) (a : program.Accepted f) (start : List ℕ) (s : Start (
       let n : ℕ = p .inputs in
       let es : List Expr = outputTrees p in
       ap (take (length gs)) (restores .opens j (omega (arith, trees-length p)))
-      ∙ take-at gs (shares (drop j es) (n + j) (n + length es)) (length gs) refl
+      ∙ take-at gs (shares (drop j es) (n + j) (firstBuilt n es j .pool) .gates) (length gs) refl
 
   -- and all of them are the gates
   all : firstOutputs p (c .outputs) ≡ c .gates

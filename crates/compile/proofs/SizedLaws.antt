@@ -26,7 +26,7 @@ use Rattle.program.specs.declared.reader.Head.{Head}
 use Rattle.program.specs.Exprs.{Expr, ZERO, size}
 use Rattle.program.specs.Nodes.{nodesIn}
 use Rattle.program.specs.Programs.{Program}
-use Rattle.wire.specs.Counts.{inputsOf}
+use Rattle.wire.specs.Arity.{inputsOf}
 use Rattle.program.specs.Reading.{outputAt, programOf}
 use Rattle.program.specs.Trees.{trees}
 use Rattle.program.proofs.AcceptedLaws.{Accepted, accepted, inputs-is, nodes-length, outputs-length, same-nodes}
@@ -39,7 +39,7 @@ use Rattle.construct.specs.Counters.{AllCountable, Needed}
 use Rattle.construct.specs.Tables.{treesIn}
 use Rattle.compile.specs.Compiling.{programCircuit, compileProgram}
 use Rattle.compile.specs.Steps.{Listed}
-use Rattle.construct.specs.Writing.{Writable}
+use Rattle.construct.specs.Writing.{CircuitRoom}
 use Rattle.sizing.specs.Sizing.{nodeSizes}
 use Rattle.sizing.specs.Steps.{entryFits}
 use Rattle.compile.proofs.BodyLaws.{outputs-count, names-node, named-tree, trees-same, countable, lines-counted, gates-counted, fitting}
@@ -155,7 +155,7 @@ module _ {f : List ℕ} {h : Head} {sizes : List ℕ} (l : Listed f h sizes) whe
             room = omega (arith, gates-are, leb-true (fileLength (needs .gates)) (length area) (both-second (leb (needs .gates) 8000) (leb (fileLength (needs .gates)) (length area)) q))
 
             -- the gates fit under any head with these inputs whose numbers are in range
-            pub head-fits : (w g : ℕ) → w ≤ 1024 → g ≤ 8000 → InRange (record { inputs = h .inputs; outputs = h .outputs; work = w; gates = g }) × Writable (bodyOf f 1) (bodyOf f 2) (h .inputs) area
+            pub head-fits : (w g : ℕ) → w ≤ 1024 → g ≤ 8000 → InRange (record { inputs = h .inputs; outputs = h .outputs; work = w; gates = g }) × CircuitRoom (bodyOf f 1) (bodyOf f 2) (h .inputs) area
             head-fits w g few-lines few =
                 fitting f accepts _ area inputs-are (omega (arith, outputs-are, outputs-length f accepts, accepts .outputs-some)) (omega (arith, outputs-are, outputs-length f accepts, accepts .outputs-most)) few-lines few (omega (arith, work-granted)) room
 

@@ -29,7 +29,7 @@ programCircuit p =
     record {
       inputs = p .inputs;
       outputs = length (p .outputs);
-      work = linesNeeded (outputTrees p);
+      work = linesNeeded (p .inputs) (outputTrees p);
       gates = circuit (p .inputs) (outputTrees p);
     }
 

@@ -27,7 +27,7 @@ ghost use Rattle.circuit.specs.Steps.{putGates};
 ghost use Rattle.program.specs.Reading.{programOf};
 ghost use Rattle.construction.specs.Construction.{circuit};
 ghost use Rattle.construct.specs.Tables.{treesIn};
-ghost use Rattle.construct.specs.Writing.{Writable};
+ghost use Rattle.construct.specs.Writing.{CircuitRoom};
 ghost use Rattle.compile.specs.Compiling.{compileProgram, compileOf, compiled};
 ghost use Rattle.compile.specs.Steps.{Listed};
 ghost use Rattle.compile.specs.Demand.{Demand3};
@@ -60,7 +60,7 @@ fn has_room(gates: usize, room: usize) -> bool
 
 // Stores the head and the shares of all outputs.
 fn write_circuit(nodes: &[u8], outputs: &[u8], head: CircuitHead, area: &mut [u8])
-    requires { ⌜ InRange head × Writable (now nodes) (now outputs) (head .inputs) (now area) ⌝ }
+    requires { ⌜ InRange head × CircuitRoom (now nodes) (now outputs) (head .inputs) (now area) ⌝ }
     ensures { λ _. ⌜ now (area .exit) ≡ putGates (sets (now (area .entry)) 0 (openingBytes head)) 0 (circuit (head .inputs) (treesIn (now (nodes .entry)) (now (outputs .entry)))) ⌝ }
 {
     write_head(area, head);

@@ -7,23 +7,28 @@ use lib.ListN.{length, getD, drop, drop-of-length-le}
 use Rattle.wire.proofs.ListLaws.{drop-next}
 use Rattle.program.specs.Exprs.{Expr, ZERO, ONE, INPUT, NOT, XOR, AND, size}
 use Rattle.program.specs.Reading.{outputAt}
-use Rattle.construction.specs.Construction.{held, most, linesNeeded}
-use Rattle.construction.specs.Counting.{gateCount, ownCount, shareCount, sharesCount, gatesShown}
+use Rattle.construction.proofs.Numbers.{held, most, mostOf}
+use Rattle.construction.specs.Counting.{gatesShown}
+use Rattle.construction.specs.Steps.{gateCount, ownCount, shareCount, sharesCount}
 use Rattle.construction.proofs.CountLaws.{own-few, lines-below-size, gates-within-size, share-within-size}
-use Rattle.construct.specs.declared.counter.Counts.{Counts}
+use Rattle.construction.proofs.PoolLaws.{lines-are, lines-needed}
+use Rattle.construct.specs.declared.counter.TreeCounts.{TreeCounts}
 use Rattle.construct.specs.declared.counter.Needs.{Needs}
 use Rattle.construct.specs.Counters.{Few, Countable, Counted, Needed}
 use Rattle.construct.specs.Tables.{treeIn, treesIn}
 use Rattle.construct.proofs.OperandLaws.{Operand, trees-length, tree-at}
 
-module _ {e : Expr} {x : Counts} (k : Counted e x) where
+module _ {e : Expr} {x : TreeCounts} (k : Counted e x) where
+  lines-counted : x .lines ≡ most e
+  lines-counted = k .lines-are 0 0 ∙ lines-are e 0 0
+
   pub few : size e ≤ 16384 → Few x
   unfolding gatesShown
   few h =
       record {
         gates-few = omega (arith, k .gates-are, gates-within-size e);
         own-few = omega (arith, k .own-are, own-few e, gates-within-size e);
-        lines-few = omega (arith, k .lines-are, lines-below-size e);
+        lines-few = omega (arith, lines-counted, lines-below-size e);
       }
 
   -- those of its own line are some of the gates
@@ -37,23 +42,29 @@ module _ {e : Expr} {x : Counts} (k : Counted e x) where
   share-shown = omega (arith, k .gates-are, k .own-are)
 
 -- what each arm answers
-pub counted-zero : {x : Counts} → x ≡ record { gates = 0; own = 0; lines = 0 } → Counted ZERO x
+pub counted-zero : {x : TreeCounts} → x ≡ record { gates = 0; own = 0; lines = 0 } → Counted ZERO x
 unfolding gatesShown gateCount ownCount most held
-counted-zero e = rw e (record { gates-are = refl; own-are = refl; lines-are = refl })
+counted-zero e = rw e (record { gates-are = refl; own-are = refl; lines-are = λ t f. sym (lines-are ZERO t f) })
 
-pub counted-one : {x : Counts} → x ≡ record { gates = 1; own = 1; lines = 0 } → Counted ONE x
+pub counted-one : {x : TreeCounts} → x ≡ record { gates = 1; own = 1; lines = 0 } → Counted ONE x
 unfolding gatesShown gateCount ownCount most held
-counted-one e = rw e (record { gates-are = refl; own-are = refl; lines-are = refl })
+counted-one e = rw e (record { gates-are = refl; own-are = refl; lines-are = λ t f. sym (lines-are ONE t f) })
 
-pub counted-input : {x : Counts} (j : ℕ) → x ≡ record { gates = 1; own = 1; lines = 0 } → Counted (INPUT j) x
+pub counted-input : {x : TreeCounts} (j : ℕ) → x ≡ record { gates = 1; own = 1; lines = 0 } → Counted (INPUT j) x
 unfolding gatesShown gateCount ownCount most held
-counted-input j e = rw e (record { gates-are = refl; own-are = refl; lines-are = refl })
+counted-input j e = rw e (record { gates-are = refl; own-are = refl; lines-are = λ t f. sym (lines-are (INPUT j) t f) })
 
-pub counted-not : {a : Expr} {x r : Counts} → Counted a x → r ≡ record { gates = 1 + x .gates; own = 1 + x .own; lines = x .lines } → Counted (NOT a) r
+pub counted-not : {a : Expr} {x r : TreeCounts} → Counted a x → r ≡ record { gates = 1 + x .gates; own = 1 + x .own; lines = x .lines } → Counted (NOT a) r
 unfolding gatesShown gateCount ownCount most held
-counted-not k e = rw e (record { gates-are = omega (arith, k .gates-are); own-are = omega (arith, k .own-are); lines-are = k .lines-are })
+counted-not {a} k e =
+    rw e
+    (record {
+      gates-are = omega (arith, k .gates-are);
+      own-are = omega (arith, k .own-are);
+      lines-are = λ t f. lines-counted k ∙ sym (lines-are (NOT a) t f);
+    })
 
-module _ {a b : Expr} {x y r : Counts} (k : Counted a x) (l : Counted b y) where
+module _ {a b : Expr} {x y r : TreeCounts} (k : Counted a x) (l : Counted b y) where
   pub counted-xor : r ≡ record { gates = x .gates + y .gates; own = x .own + y .own; lines = x .lines + y .lines } → Counted (XOR a b) r
   unfolding gatesShown gateCount ownCount most held
   counted-xor e =
@@ -61,7 +72,7 @@ module _ {a b : Expr} {x y r : Counts} (k : Counted a x) (l : Counted b y) where
       (record {
         gates-are = omega (arith, k .gates-are, l .gates-are);
         own-are = omega (arith, k .own-are, l .own-are);
-        lines-are = omega (arith, k .lines-are, l .lines-are);
+        lines-are = λ t f. omega (arith, lines-counted k, lines-counted l, lines-are (XOR a b) t f);
       })
 
   pub counted-and : r ≡ record { gates = x .gates + y .gates + 1; own = 1; lines = 1 + x .lines + (1 + y .lines) } → Counted (AND a b) r
@@ -71,7 +82,7 @@ module _ {a b : Expr} {x y r : Counts} (k : Counted a x) (l : Counted b y) where
       (record {
         gates-are = omega (arith, k .gates-are, l .gates-are);
         own-are = refl;
-        lines-are = omega (arith, k .lines-are, l .lines-are);
+        lines-are = λ t f. omega (arith, lines-counted k, lines-counted l, lines-are (AND a b) t f);
       })
 
 -- the operands of a node that is small enough are so too
@@ -83,15 +94,15 @@ pub record Tallied (es : List Expr) (r : Needs) (k : ℕ) : Type 0 where
   pub within : k ≤ length es
   pub few : r .gates ≤ 32768 * k
   pub gates-left : r .gates + sharesCount (drop k es) ≡ sharesCount es
-  pub lines-left : max (r .lines) (linesNeeded (drop k es)) ≡ linesNeeded es
+  pub lines-left : max (r .lines) (mostOf (drop k es)) ≡ mostOf es
 
 pub tallied-start : (es : List Expr) → Tallied es (record { gates = 0; lines = 0 }) 0
 tallied-start es = record { within = omega arith; few = omega arith; gates-left = omega arith; lines-left = omega arith }
 
 module _ {es : List Expr} {r : Needs} {k : ℕ} (m : Tallied es r k) where
-  tallied-next : (x : Counts) (r′ : Needs) → k < length es → Counted (getD es k ZERO) x → size (getD es k ZERO) ≤ 16384
+  tallied-next : (x : TreeCounts) (r′ : Needs) → k < length es → Counted (getD es k ZERO) x → size (getD es k ZERO) ≤ 16384
       → r′ ≡ record { gates = r .gates + (2 * x .gates - x .own); lines = max (r .lines) (x .lines) } → Tallied es r′ (k + 1)
-  unfolding gatesShown sharesCount linesNeeded
+  unfolding gatesShown sharesCount mostOf
   tallied-next x r′ h c s e =
       let next : drop k es ≡ getD es k ZERO ∷ drop (k + 1) es = drop-next es k ZERO h in
       let share : shareCount (getD es k ZERO) + 1 ≤ 2 * size (getD es k ZERO) = share-within-size (getD es k ZERO) in
@@ -100,18 +111,18 @@ module _ {es : List Expr} {r : Needs} {k : ℕ} (m : Tallied es r k) where
         within = omega arith;
         few = omega (arith, m .few, share-shown c, share, s);
         gates-left = omega (arith, m .gates-left, ap sharesCount next, share-shown c);
-        lines-left = omega (arith, m .lines-left, ap linesNeeded next, c .lines-are);
+        lines-left = omega (arith, m .lines-left, ap mostOf next, lines-counted c);
       })
 
   pub tallied-all : length es ≤ k → Needed es r
-  unfolding gatesShown sharesCount linesNeeded
+  unfolding gatesShown sharesCount mostOf
   tallied-all h =
       let none : drop k es ≡ [] = drop-of-length-le es h in
-      record { gates-are = omega (arith, m .gates-left, ap sharesCount none); lines-are = omega (arith, m .lines-left, ap linesNeeded none) }
+      record { gates-are = omega (arith, m .gates-left, ap sharesCount none); lines-are = λ n. omega (arith, m .lines-left, ap mostOf none, lines-needed n es) }
 
 -- the next output's node is counted
 pub tallied-output : (nodes outputs : List ℕ) {r : Needs} {k : ℕ} → Tallied (treesIn nodes outputs) r k → k < length outputs / 2
-    → (o : ℕ) (x : Counts) (r′ : Needs) → o ≡ outputAt outputs k → Countable nodes o → Counted (treeIn nodes o) x
+    → (o : ℕ) (x : TreeCounts) (r′ : Needs) → o ≡ outputAt outputs k → Countable nodes o → Counted (treeIn nodes o) x
     → r′ ≡ record { gates = r .gates + (2 * x .gates - x .own); lines = max (r .lines) (x .lines) } → Tallied (treesIn nodes outputs) r′ (k + 1)
 tallied-output nodes outputs {r} {k} m h o x r′ e v c =
     let is : treeIn nodes o ≡ getD (treesIn nodes outputs) k ZERO = ap (treeIn nodes) e ∙ sym (tree-at nodes outputs k h) in

@@ -12,8 +12,8 @@ use Rattle.wire.specs.Lists.{tabulateFrom}
 use Rattle.gate.specs.declared.gates.Gate.{Gate}
 use Rattle.gate.specs.Gates.{target}
 use Rattle.gate.specs.GateBytes.{gateAt}
-use Rattle.gate.specs.Running.{without, undo}
-use Rattle.gate.proofs.UndoLaws.{undo-snoc, one-out, one-kept}
+use Rattle.gate.specs.Running.{without, uncompute}
+use Rattle.gate.proofs.UncomputeLaws.{uncompute-snoc, one-out, one-kept}
 use Rattle.circuit.specs.Format.{firstGate, fileLength}
 use Rattle.circuit.specs.Steps.{putGates}
 use Rattle.circuit.proofs.WriterLaws.{put-length, put-none, put-append}
@@ -48,7 +48,7 @@ module _ (area : List ℕ) (i k out : ℕ) where
 module _ (area₀ : List ℕ) (from to at out : ℕ) where
   -- what is to be written again of the gates before gate i
   abbrev left : ℕ → List Gate
-  left i = undo (eqb out) (gatesFrom area₀ from (i - from))
+  left i = uncompute (eqb out) (gatesFrom area₀ from (i - from))
 
   -- a loop from the last gate to the first has still to write the gates before gate i again, the next as gate k
   pub record Going (area : List ℕ) (k i : ℕ) : Type 0 where
@@ -75,9 +75,9 @@ module _ (area₀ : List ℕ) (from to at out : ℕ) where
       left-next =
           let n : i - from ≡ suc (i - 1 - from) = omega arith in
           let m : from + (i - 1 - from) ≡ i - 1 = omega arith in
-          ap (λ (l : ℕ). undo (eqb out) (gatesFrom area₀ from l)) n
-          ∙ ap (undo (eqb out)) (from-last area₀ from (i - 1 - from))
-          ∙ undo-snoc (eqb out) (gatesFrom area₀ from (i - 1 - from)) (gateIn area₀ (from + (i - 1 - from)))
+          ap (λ (l : ℕ). uncompute (eqb out) (gatesFrom area₀ from l)) n
+          ∙ ap (uncompute (eqb out)) (from-last area₀ from (i - 1 - from))
+          ∙ uncompute-snoc (eqb out) (gatesFrom area₀ from (i - 1 - from)) (gateIn area₀ (from + (i - 1 - from)))
           ∙ ap (λ (l : ℕ). without (eqb out) (gateIn area₀ l ∷ []) ++ left (i - 1)) m
           ∙ ap (λ (g : Gate). without (eqb out) (g ∷ []) ++ left (i - 1)) (sym (p .kept (i - 1) (omega (arith, p .high, r .before))))
 
@@ -110,10 +110,10 @@ module _ (area₀ : List ℕ) (from to at out : ℕ) where
 
     -- until none is
     pub going-all : {area : List ℕ} {k i : ℕ} → Going area k i → i ≤ from → Stored (left to) at k area₀ area
-    unfolding undo without tabulateFrom
+    unfolding uncompute without tabulateFrom
     going-all {area} {k} {i} p h =
         let n : i - from ≡ 0 = omega arith in
-        let none : left i ≡ [] = ap (λ (l : ℕ). undo (eqb out) (gatesFrom area₀ from l)) n in
+        let none : left i ≡ [] = ap (λ (l : ℕ). uncompute (eqb out) (gatesFrom area₀ from l)) n in
         record {
           count-to = omega (arith, p .count, ap (λ (gs : List Gate). length gs) none);
           area-to = sym (put-none area k) ∙ ap (putGates area k) (sym none) ∙ p .rest;

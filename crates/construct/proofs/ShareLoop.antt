@@ -11,18 +11,21 @@ use Rattle.program.specs.Exprs.{Expr, ZERO}
 use Rattle.program.specs.Reading.{outputAt}
 use Rattle.circuit.specs.Steps.{putGates}
 use Rattle.circuit.proofs.WriterLaws.{put-length, put-none, put-append}
-use Rattle.construction.specs.Construction.{most, share, shares, circuit, linesNeeded}
+use Rattle.construction.specs.Construction.{share, circuit}
+use Rattle.construction.specs.Pools.{allFree}
+use Rattle.construction.proofs.Numbers.{most, shareFrom, sharesFrom, mostOf}
 use Rattle.construction.proofs.CountLaws.{share-length, circuit-length}
+use Rattle.construction.proofs.PoolLaws.{share-gates, lines-are, circuit-is, lines-needed}
 use Rattle.construct.specs.Tables.{treeIn, treesIn}
-use Rattle.construct.specs.Writing.{Stored, ShareRoom, Writable}
+use Rattle.construct.specs.Writing.{Stored, ShareRoom, CircuitRoom}
 use Rattle.construct.proofs.OperandLaws.{trees-length, tree-at}
 
 -- no output takes more work lines than are needed
-most-needed : (es : List Expr) (k : ℕ) → k < length es → most (getD es k ZERO) ≤ linesNeeded es
-unfolding linesNeeded
+most-needed : (es : List Expr) (k : ℕ) → k < length es → most (getD es k ZERO) ≤ mostOf es
+unfolding mostOf
 most-needed [] k h = absurd (omega arith)
-most-needed (e ∷ es) zero h = le-max-left (most e) (linesNeeded es)
-most-needed (e ∷ es) (suc k) h = omega (arith, most-needed es k (omega arith), le-max-right (most e) (linesNeeded es))
+most-needed (e ∷ es) zero h = le-max-left (most e) (mostOf es)
+most-needed (e ∷ es) (suc k) h = omega (arith, most-needed es k (omega arith), le-max-right (most e) (mostOf es))
 
 module _ (nodes outputs : List ℕ) (n : ℕ) where
   abbrev es : List Expr
@@ -33,31 +36,30 @@ module _ (nodes outputs : List ℕ) (n : ℕ) where
 
   -- the shares from output k on
   abbrev left : ℕ → List Gate
-  left k = shares (drop k es) (n + k) (n + m)
+  left k = sharesFrom (drop k es) (n + k) (n + m)
 
   -- the share of output k
   abbrev next : ℕ → List Gate
-  next k = share (treeIn nodes (outputAt outputs k)) (n + k) (n + m)
+  next k = shareFrom (treeIn nodes (outputAt outputs k)) (n + k) (n + m)
 
   -- all shares are the circuit
   left-all : left 0 ≡ circuit n es
-  unfolding circuit
-  left-all = ap₂ (λ (t l : ℕ). shares es t (n + l)) (add-zero n) (sym (trees-length nodes outputs))
+  left-all = ap₂ (λ (t l : ℕ). sharesFrom es t (n + l)) (add-zero n) (sym (trees-length nodes outputs)) ∙ sym (circuit-is n es)
 
   -- the next share comes first
   left-next : (k : ℕ) → k < m → left k ≡ next k ++ left (k + 1)
-  unfolding shares
+  unfolding sharesFrom
   left-next k h =
-      ap (λ (l : List Expr). shares l (n + k) (n + m)) (drop-next es k ZERO (omega (arith, trees-length nodes outputs)))
-      ∙ ap₂ (λ (e : Expr) (t : ℕ). share e (n + k) (n + m) ++ shares (drop (k + 1) es) t (n + m)) (tree-at nodes outputs k h) (add-assoc n k 1)
+      ap (λ (l : List Expr). sharesFrom l (n + k) (n + m)) (drop-next es k ZERO (omega (arith, trees-length nodes outputs)))
+      ∙ ap₂ (λ (e : Expr) (t : ℕ). shareFrom e (n + k) (n + m) ++ sharesFrom (drop (k + 1) es) t (n + m)) (tree-at nodes outputs k h) (add-assoc n k 1)
 
   left-count : (k : ℕ) → k < m → length (left k) ≡ length (next k) + length (left (k + 1))
   left-count k h = ap (λ (gs : List Gate). length gs) (left-next k h) ∙ length-append (next k) (left (k + 1))
 
   -- no share is left
   left-none : (k : ℕ) → m ≤ k → left k ≡ []
-  unfolding shares
-  left-none k h = ap (λ (l : List Expr). shares l (n + k) (n + m)) (drop-of-length-le es {i = k} (omega (arith, trees-length nodes outputs)))
+  unfolding sharesFrom
+  left-none k h = ap (λ (l : List Expr). sharesFrom l (n + k) (n + m)) (drop-of-length-le es {i = k} (omega (arith, trees-length nodes outputs)))
 
   -- a loop has still to write the shares from output k on, the next gate as gate `gates`
   pub record Writing (area₀ area : List ℕ) (gates k : ℕ) : Type 0 where
@@ -79,14 +81,14 @@ module _ (nodes outputs : List ℕ) (n : ℕ) where
 
     module _ {area : List ℕ} {gates k : ℕ} (p : Writing area₀ area gates k) where
       -- there is room for the next share, on any target
-      pub writing-room : {t : ℕ} → k < m → Writable nodes outputs n area₀ → n ≤ t → t < n + m
+      pub writing-room : {t : ℕ} → k < m → CircuitRoom nodes outputs n area₀ → n ≤ t → t < n + m
           → ShareRoom nodes (outputAt outputs k) t (record { gates = gates; free = n + m }) area
-      writing-room h w behind taken =
+      writing-room {t} h w behind taken =
           record {
             valid = record { inputs = n; ordered = w .ordered; inside = w .named k h };
             behind = behind;
             taken = taken;
-            lines = omega (arith, w .lines, ap most (tree-at nodes outputs k h), most-needed es k (omega (arith, trees-length nodes outputs)));
+            lines = omega (arith, w .lines, lines-needed n es, lines-are (treeIn nodes (outputAt outputs k)) t (n + m), ap most (tree-at nodes outputs k h), most-needed es k (omega (arith, trees-length nodes outputs)));
             room =
                 omega (
                   arith,
@@ -100,8 +102,9 @@ module _ (nodes outputs : List ℕ) (n : ℕ) where
           }
 
       -- and then fewer are left
-      pub writing-next : {area′ : List ℕ} {gates′ : ℕ} → k < m → Stored (next k) gates gates′ area area′ → Writing area₀ area′ gates′ (k + 1)
-      writing-next {area′} {gates′} h s =
+      pub writing-next : {area′ : List ℕ} {gates′ : ℕ} → k < m → Stored (share (treeIn nodes (outputAt outputs k)) (n + k) (allFree (n + m)) .gates) gates gates′ area area′ → Writing area₀ area′ gates′ (k + 1)
+      writing-next {area′} {gates′} h t =
+          let s : Stored (next k) gates gates′ area area′ = rw (share-gates (treeIn nodes (outputAt outputs k)) (n + k) (n + m)) at t in
           rw (s .count-to, s .area-to)
           (record {
             within = omega arith;

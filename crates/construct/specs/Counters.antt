@@ -5,14 +5,16 @@ use mathlib.Core.List.{List}
 use lib.ListN.{length}
 use Rattle.program.specs.Exprs.{Expr, size}
 use Rattle.program.specs.Reading.{outputAt}
-use Rattle.construction.specs.Construction.{most, linesNeeded}
-use Rattle.construction.specs.Counting.{gateCount, ownCount, sharesCount, gatesShown}
-use Rattle.construct.specs.declared.counter.Counts.{Counts}
+use Rattle.construction.specs.Construction.{linesNeeded}
+use Rattle.construction.specs.Counting.{gatesShown}
+use Rattle.construction.specs.Steps.{gateCount, ownCount, sharesCount}
+use Rattle.construction.specs.Theorems.{treeLines}
+use Rattle.construct.specs.declared.counter.TreeCounts.{TreeCounts}
 use Rattle.construct.specs.declared.counter.Needs.{Needs}
 use Rattle.construct.specs.Tables.{treeIn, Valid}
 
 -- numbers that are small enough to be added
-pub record Few (x : Counts) : Type 0 where
+pub record Few (x : TreeCounts) : Type 0 where
   pub gates-few : x .gates ≤ 16384
   pub own-few : x .own ≤ 16384
   pub lines-few : x .lines ≤ 16384
@@ -27,13 +29,13 @@ pub record AllCountable (nodes outputs : List ℕ) : Type 0 where
   pub each : (k : ℕ) → k < length outputs / 2 → Countable nodes (outputAt outputs k)
   pub outputs-most : length outputs / 2 ≤ 64
 
--- a tree's gates and lines, as they are counted
-pub record Counted (e : Expr) (r : Counts) : Type 0 where
+-- a tree's gates and lines, as they are counted, whatever its target and the first work line are
+pub record Counted (e : Expr) (r : TreeCounts) : Type 0 where
   pub gates-are : r .gates ≡ gatesShown (gateCount e)
   pub own-are : r .own ≡ ownCount e
-  pub lines-are : r .lines ≡ most e
+  pub lines-are : (t f : ℕ) → r .lines ≡ treeLines e t f
 
--- the gates and work lines of a circuit, as they are counted: at most 64 times 32,767 gates, so that no sum is too large
+-- the gates and work lines of a circuit over any number of inputs, as they are counted: at most 64 times 32,767 gates, so that no sum is too large
 pub record Needed (es : List Expr) (r : Needs) : Type 0 where
   pub gates-are : r .gates ≡ gatesShown (sharesCount es)
-  pub lines-are : r .lines ≡ linesNeeded es
+  pub lines-are : (n : ℕ) → r .lines ≡ linesNeeded n es

@@ -7,15 +7,17 @@ use lib.Dec.{eqb}
 use Rattle.wire.specs.Lists.{tabulateFrom}
 use Rattle.gate.specs.declared.gates.Gate.{Gate}
 use Rattle.gate.specs.GateBytes.{gateAt}
-use Rattle.gate.specs.Running.{without, undo}
+use Rattle.gate.specs.Running.{without, uncompute}
 use Rattle.circuit.specs.Format.{firstGate, fileLength}
 use Rattle.circuit.specs.Steps.{putGates}
 use Rattle.program.specs.Exprs.{Expr}
 use Rattle.program.specs.Nodes.{nodesIn}
 use Rattle.program.specs.Reading.{outputAt}
 use Rattle.program.specs.Steps.{TableOk}
-use Rattle.construction.specs.Construction.{held, most, build, linesNeeded}
-use Rattle.construction.specs.Counting.{gateCount, shareCount, sharesCount}
+use Rattle.construction.specs.Pools.{Pool, lowestFree}
+use Rattle.construction.specs.Construction.{build, linesNeeded}
+use Rattle.construction.specs.Steps.{Reached, gateCount, shareCount, sharesCount}
+use Rattle.construction.specs.Theorems.{treeLines}
 use Rattle.construct.specs.declared.builder.Progress.{Progress}
 use Rattle.construct.specs.Tables.{treeIn, treesIn, Valid}
 
@@ -42,23 +44,23 @@ pub record Repeatable (area : List ℕ) (i k out : ℕ) : Type 0 where
 pub record Reversible (area : List ℕ) (i to k out : ℕ) : Type 0 where
   pub ordered : i ≤ to
   pub before : to ≤ k
-  pub room : fileLength (k + length (undo (eqb out) (gatesFrom area i (to - i)))) ≤ length area
+  pub room : fileLength (k + length (uncompute (eqb out) (gatesFrom area i (to - i)))) ≤ length area
 
 -- one gate is appended
 pub record Appended (g : Gate) (p r : Progress) (old new : List ℕ) : Type 0 where
   pub stored : Stored (g ∷ []) (p .gates) (r .gates) old new
   pub free-to : r .free ≡ p .free
 
--- a tree is built into line t
-pub record Built (e : Expr) (t : ℕ) (p r : Progress) (old new : List ℕ) : Type 0 where
-  pub stored : Stored (build e t (p .free)) (p .gates) (r .gates) old new
-  pub free-to : r .free ≡ p .free + held e
+-- a tree is built into line t as the construction builds it from any pool whose lowest free line is p's: the lowest then is r's
+pub record BuiltInto (e : Expr) (t : ℕ) (p r : Progress) (old new : List ℕ) : Type 0 where
+  pub stores : (q : Pool) → Reached q → lowestFree q ≡ p .free → Stored (build e t q .gates) (p .gates) (r .gates) old new
+  pub leaves : (q : Pool) → Reached q → lowestFree q ≡ p .free → lowestFree (build e t q .pool) ≡ r .free
 
 -- there are lines and room for node i: its line t is taken already
-pub record Room (nodes : List ℕ) (i t : ℕ) (p : Progress) (area : List ℕ) : Type 0 where
+pub record BuildRoom (nodes : List ℕ) (i t : ℕ) (p : Progress) (area : List ℕ) : Type 0 where
   pub valid : Valid nodes i
   pub taken : t < p .free
-  pub lines : p .free + most (treeIn nodes i) ≤ 65535
+  pub lines : p .free + treeLines (treeIn nodes i) t (p .free) ≤ 65535
   pub room : fileLength (p .gates + gateCount (treeIn nodes i)) ≤ length area
 
 -- the same for its share
@@ -66,12 +68,12 @@ pub record ShareRoom (nodes : List ℕ) (i t : ℕ) (p : Progress) (area : List 
   pub valid : Valid nodes i
   pub behind : valid .inputs ≤ t
   pub taken : t < p .free
-  pub lines : p .free + most (treeIn nodes i) ≤ 65535
+  pub lines : p .free + treeLines (treeIn nodes i) t (p .free) ≤ 65535
   pub room : fileLength (p .gates + shareCount (treeIn nodes i)) ≤ length area
 
 -- there are lines and room for the shares of all outputs over n inputs
-pub record Writable (nodes outputs : List ℕ) (n : ℕ) (area : List ℕ) : Type 0 where
+pub record CircuitRoom (nodes outputs : List ℕ) (n : ℕ) (area : List ℕ) : Type 0 where
   pub ordered : TableOk n (nodesIn nodes)
   pub named : (k : ℕ) → k < length outputs / 2 → outputAt outputs k < length nodes / 6
-  pub lines : n + length outputs / 2 + linesNeeded (treesIn nodes outputs) ≤ 65535
+  pub lines : n + length outputs / 2 + linesNeeded n (treesIn nodes outputs) ≤ 65535
   pub room : fileLength (sharesCount (treesIn nodes outputs)) ≤ length area

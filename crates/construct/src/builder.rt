@@ -8,7 +8,7 @@ ghost use Prim.Native.Nat.{_+_, _<_, _≤_};
 ghost use lib.ListN.{length};
 ghost use Rattle.circuit.specs.Format.{fileLength};
 ghost use Rattle.construct.specs.Tables.{treeIn};
-ghost use Rattle.construct.specs.Writing.{Appended, Built, Room};
+ghost use Rattle.construct.specs.Writing.{Appended, BuiltInto, BuildRoom};
 
 // How far writing has come: how many gates are written, and which line is the lowest free one.
 pub struct Progress {
@@ -47,8 +47,8 @@ pub fn build(
     free: usize,
     area: &mut [u8],
 ) -> Progress
-    requires { ⌜ Room (now nodes) i target (record { gates = gates; free = free }) (now area) ⌝ }
-    ensures { λ r. ⌜ Built (treeIn (now (nodes .entry)) i) target (record { gates = gates; free = free }) r (now (area .entry)) (now (area .exit)) ⌝ }
+    requires { ⌜ BuildRoom (now nodes) i target (record { gates = gates; free = free }) (now area) ⌝ }
+    ensures { λ r. ⌜ BuiltInto (treeIn (now (nodes .entry)) i) target (record { gates = gates; free = free }) r (now (area .entry)) (now (area .exit)) ⌝ }
 {
     let node = node_at(nodes, i);
     match node {

@@ -9,7 +9,7 @@ ghost use Rattle.construct.specs.Tables.{treeIn, treesIn};
 
 // A tree's numbers: its gates, those of them that change its own line, and the most work lines
 // that it holds together.
-pub struct Counts {
+pub struct TreeCounts {
     pub gates: usize,
     pub own: usize,
     pub lines: usize,
@@ -22,10 +22,10 @@ pub struct Needs {
 }
 
 // A leaf's numbers: it has one gate or none, and takes no line.
-fn count_leaf(gates: usize) -> Counts
+fn count_leaf(gates: usize) -> TreeCounts
     ensures { λ r. ⌜ r ≡ record { gates = gates; own = gates; lines = 0 } ⌝ }
 {
-    Counts {
+    TreeCounts {
         gates,
         own: gates,
         lines: 0,
@@ -33,11 +33,11 @@ fn count_leaf(gates: usize) -> Counts
 }
 
 // The numbers of NOT: a gate on the same line comes first.
-fn count_not(x: Counts) -> Counts
+fn count_not(x: TreeCounts) -> TreeCounts
     requires { ⌜ Few x ⌝ }
     ensures { λ r. ⌜ r ≡ record { gates = 1 + x .gates; own = 1 + x .own; lines = x .lines } ⌝ }
 {
-    Counts {
+    TreeCounts {
         gates: 1 + x.gates,
         own: 1 + x.own,
         lines: x.lines,
@@ -45,11 +45,11 @@ fn count_not(x: Counts) -> Counts
 }
 
 // The numbers of XOR: both operands go to the same line.
-fn count_xor(x: Counts, y: Counts) -> Counts
+fn count_xor(x: TreeCounts, y: TreeCounts) -> TreeCounts
     requires { ⌜ Few x × Few y ⌝ }
     ensures { λ r. ⌜ r ≡ record { gates = x .gates + y .gates; own = x .own + y .own; lines = x .lines + y .lines } ⌝ }
 {
-    Counts {
+    TreeCounts {
         gates: x.gates + y.gates,
         own: x.own + y.own,
         lines: x.lines + y.lines,
@@ -57,11 +57,11 @@ fn count_xor(x: Counts, y: Counts) -> Counts
 }
 
 // The numbers of AND: each operand has a line of its own, and one gate goes to the target.
-fn count_and(x: Counts, y: Counts) -> Counts
+fn count_and(x: TreeCounts, y: TreeCounts) -> TreeCounts
     requires { ⌜ Few x × Few y ⌝ }
     ensures { λ r. ⌜ r ≡ record { gates = x .gates + y .gates + 1; own = 1; lines = 1 + x .lines + (1 + y .lines) } ⌝ }
 {
-    Counts {
+    TreeCounts {
         gates: x.gates + y.gates + 1,
         own: 1,
         lines: 1 + x.lines + (1 + y.lines),
@@ -69,7 +69,7 @@ fn count_and(x: Counts, y: Counts) -> Counts
 }
 
 // Counts node i. Calls itself on the operands, whose indices are lower.
-pub fn count(nodes: &[u8], i: usize) -> Counts
+pub fn count(nodes: &[u8], i: usize) -> TreeCounts
     requires { ⌜ Countable (now nodes) i ⌝ }
     ensures { λ r. ⌜ Counted (treeIn (now (nodes .entry)) i) r ⌝ }
 {
@@ -101,7 +101,7 @@ fn larger(a: usize, b: usize) -> usize
 }
 
 // The needs with one output's share more: its gates on that target are not undone.
-fn add_share(needs: Needs, x: Counts) -> Needs
+fn add_share(needs: Needs, x: TreeCounts) -> Needs
     requires { ⌜ Few x × (x .own ≤ x .gates) × (needs .gates ≤ 2097152) ⌝ }
     ensures { λ r. ⌜ r ≡ record { gates = needs .gates + (2 * x .gates - x .own); lines = max (needs .lines) (x .lines) } ⌝ }
 {

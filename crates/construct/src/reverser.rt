@@ -7,7 +7,7 @@ use gate::gates::target_at;
 ghost use mathlib.Core.List.{_∷_, []};
 ghost use Prim.Native.Nat.{_-_};
 ghost use lib.Dec.{eqb};
-ghost use Rattle.gate.specs.Running.{without, undo};
+ghost use Rattle.gate.specs.Running.{without, uncompute};
 ghost use Rattle.construct.specs.Writing.{gateIn, gatesFrom, Stored, Repeatable, Reversible};
 
 // Writes gate i again as gate k, unless it changes the line left out; the number of gates then.
@@ -27,7 +27,7 @@ fn append_again(area: &mut [u8], i: usize, k: usize, excluded: u16) -> usize
 // without those that change the line left out; the number of gates then.
 pub fn append_reversed(area: &mut [u8], from: usize, to: usize, at: usize, excluded: u16) -> usize
     requires { ⌜ Reversible (now area) from to at excluded ⌝ }
-    ensures { λ r. ⌜ Stored (undo (eqb excluded) (gatesFrom (now (area .entry)) from (to - from))) at r (now (area .entry)) (now (area .exit)) ⌝ }
+    ensures { λ r. ⌜ Stored (uncompute (eqb excluded) (gatesFrom (now (area .entry)) from (to - from))) at r (now (area .entry)) (now (area .exit)) ⌝ }
 {
     let mut k = at;
     let mut i = to;

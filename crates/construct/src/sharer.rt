@@ -4,14 +4,15 @@ use crate::builder::build;
 use crate::reverser::append_reversed;
 use program::reader::output_at;
 ghost use Rattle.construction.specs.Construction.{share, circuit};
+ghost use Rattle.construction.specs.Pools.{allFree};
 ghost use Rattle.construct.specs.Tables.{treeIn, treesIn};
-ghost use Rattle.construct.specs.Writing.{Stored, ShareRoom, Writable};
+ghost use Rattle.construct.specs.Writing.{Stored, ShareRoom, CircuitRoom};
 
 // Writes the share of node i with this target; the number of gates then. The lines that it took
 // are free again, so that the next share starts with the same p.free.
 fn write_share(nodes: &[u8], i: usize, target: u16, p: Progress, area: &mut [u8]) -> usize
     requires { ⌜ ShareRoom (now nodes) i target p (now area) ⌝ }
-    ensures { λ r. ⌜ Stored (share (treeIn (now (nodes .entry)) i) target (p .free)) (p .gates) r (now (area .entry)) (now (area .exit)) ⌝ }
+    ensures { λ r. ⌜ Stored (share (treeIn (now (nodes .entry)) i) target (allFree (p .free)) .gates) (p .gates) r (now (area .entry)) (now (area .exit)) ⌝ }
 {
     let from = p.gates;
     let q = build(nodes, i, target, from, p.free, area);
@@ -21,7 +22,7 @@ fn write_share(nodes: &[u8], i: usize, target: u16, p: Progress, area: &mut [u8]
 
 // Writes the shares of all outputs over so many inputs, from the first gate on; the number of gates.
 pub fn write_shares(nodes: &[u8], outputs: &[u8], inputs: usize, area: &mut [u8]) -> usize
-    requires { ⌜ Writable (now nodes) (now outputs) inputs (now area) ⌝ }
+    requires { ⌜ CircuitRoom (now nodes) (now outputs) inputs (now area) ⌝ }
     ensures { λ r. ⌜ Stored (circuit inputs (treesIn (now (nodes .entry)) (now (outputs .entry)))) 0 r (now (area .entry)) (now (area .exit)) ⌝ }
 {
     let free = inputs + outputs.len() / 2;

@@ -14,8 +14,8 @@ use Rattle.gate.specs.Running.{addend, step, run}
 use Rattle.gate.proofs.StepLaws.{length-run, step-target, step-other, step-bits, run-append, run-bits}
 use Rattle.program.specs.Exprs.{Expr, ZERO, ONE, INPUT, NOT, XOR, AND, value}
 use Rattle.program.proofs.ValueLaws.{value-bit}
-use Rattle.construction.specs.Construction.{held, most, second, build}
-use Rattle.construction.specs.Theorems.{Apart, Zeros, Computes, BuildComputes}
+use Rattle.construction.specs.Theorems.{Zeros, Computes}
+use Rattle.construction.proofs.Numbers.{held, most, second, buildFrom, ApartFrom}
 use Rattle.construction.proofs.LineLaws.{most-not, most-xor-first, most-xor-second, most-and-first, most-and-second, apart-not, apart-xor-first, apart-xor-second, apart-and-first, apart-and-second, build-formed, build-leaves, build-frees}
 
 -- where a run leaves the first n lines, they are read as before
@@ -28,29 +28,29 @@ inputs-run n gs s same =
     getD-take n (run gs s) i 0 below ∙ same i below ∙ sym (getD-take n s i 0 below))
 
 -- what building leaves for what is built next
-module _ {n : ℕ} {e : Expr} {t f : ℕ} (s : List ℕ) (p : Apart n e t f (length s)) (b : Bits s) where
+module _ {n : ℕ} {e : Expr} {t f : ℕ} (s : List ℕ) (p : ApartFrom n e t f (length s)) (b : Bits s) where
   -- the inputs
-  inputs-kept : take n (run (build e t f) s) ≡ take n s
-  inputs-kept = inputs-run n (build e t f) s (λ i h. build-leaves e t f s i (omega arith) (λ q. omega arith))
+  inputs-kept : take n (run (buildFrom e t f) s) ≡ take n s
+  inputs-kept = inputs-run n (buildFrom e t f) s (λ i h. build-leaves e t f s i (omega arith) (λ q. omega arith))
 
   -- bits
-  bits-kept : Bits (run (build e t f) s)
-  bits-kept = run-bits (build e t f) s (build-formed n e t f (length s) p) b
+  bits-kept : Bits (run (buildFrom e t f) s)
+  bits-kept = run-bits (buildFrom e t f) s (build-formed n e t f (length s) p) b
 
   -- zeros behind the lines that it holds
-  zeros-kept : (k : ℕ) → Zeros (f + held e) k s → Zeros (f + held e) k (run (build e t f) s)
+  zeros-kept : (k : ℕ) → Zeros (f + held e) k s → Zeros (f + held e) k (run (buildFrom e t f) s)
   zeros-kept k zs i q r = build-frees n e t f s p b i (omega arith) (λ h. q) ∙ zs i q r
 
   -- on a line that was 0 the value itself
-  holds-value : bit s t ≡ 0 → Computes (build e t f) n e t s → bit (run (build e t f) s) t ≡ value e (take n s)
+  holds-value : bit s t ≡ 0 → Computes (buildFrom e t f) n e t s → bit (run (buildFrom e t f) s) t ≡ value e (take n s)
   holds-value z c =
       c
       ∙ ap (λ (v : ℕ). xorBit v (value e (take n s))) z
       ∙ xor-start (value e (take n s)) (value-bit e (take n s) (bits-take n s b))
 
 -- building computes the tree: 001, Theorem 1
-pub build-computes : BuildComputes
-unfolding build second value run addend target
+pub build-computes : (n : ℕ) (e : Expr) (t f : ℕ) (s : List ℕ) → ApartFrom n e t f (length s) → Bits s → Zeros f (most e) s → Computes (buildFrom e t f) n e t s
+unfolding buildFrom second value run addend target
 build-computes n ZERO t f s p b zs = sym (xor-end (bit s t) (bit-below s b t))
 build-computes n ONE t f s p b zs = step-target (Not t) s (omega arith)
 build-computes n (INPUT j) t f s p b zs =
@@ -59,18 +59,18 @@ build-computes n (NOT a) t f s p b zs =
     let s₁ : List ℕ = step (Not t) s in
     let below : t < length s = omega arith in
     let l : length s₁ ≡ length s = length-run (Not t ∷ []) s in
-    let q : Apart n a t f (length s₁) = rw l (apart-not p) in
+    let q : ApartFrom n a t f (length s₁) = rw l (apart-not p) in
     build-computes n a t f s₁ q (step-bits (Not t) s below b)
     (λ i h g. step-other (Not t) s i (omega arith) ∙ zs i h (omega (arith, most-not a)))
     ∙ ap₂ (λ (v : ℕ) (x : List ℕ). xorBit v (value a x)) (step-target (Not t) s below)
     (inputs-run n (Not t ∷ []) s (λ i h. step-other (Not t) s i (omega arith)))
     ∙ xor-assoc (bit s t) 1 (value a (take n s))
 build-computes n (XOR a b) t f s p bs zs =
-    let A : List Gate = build a t f in
-    let B : List Gate = build b t (f + held a) in
+    let A : List Gate = buildFrom a t f in
+    let B : List Gate = buildFrom b t (f + held a) in
     let s₁ : List ℕ = run A s in
-    let pa : Apart n a t f (length s) = apart-xor-first p in
-    let pb : Apart n b t (f + held a) (length s₁) = rw (length-run A s) (apart-xor-second p) in
+    let pa : ApartFrom n a t f (length s) = apart-xor-first p in
+    let pb : ApartFrom n b t (f + held a) (length s₁) = rw (length-run A s) (apart-xor-second p) in
     let at : Computes A n a t s = build-computes n a t f s pa bs (λ i h g. zs i h (omega (arith, most-xor-first a b))) in
     let zb : Zeros (f + held a) (most b) s₁ =
     zeros-kept s pa bs (most b) (λ i h g. zs i (omega arith) (omega (arith, most-xor-second a b))) in
@@ -80,13 +80,13 @@ build-computes n (XOR a b) t f s p bs zs =
     ∙ xor-assoc (bit s t) (value a (take n s)) (value b (take n s))
 build-computes n (AND a b) t f s p bs zs =
     let g : ℕ = second f a in
-    let A : List Gate = build a f (f + 1) in
-    let B : List Gate = build b g (g + 1) in
+    let A : List Gate = buildFrom a f (f + 1) in
+    let B : List Gate = buildFrom b g (g + 1) in
     let T : Gate = Toffoli f g t in
     let s₁ : List ℕ = run A s in
     let s₂ : List ℕ = run B s₁ in
-    let pa : Apart n a f (f + 1) (length s) = apart-and-first p in
-    let pb : Apart n b g (g + 1) (length s₁) = rw (length-run A s) (apart-and-second p) in
+    let pa : ApartFrom n a f (f + 1) (length s) = apart-and-first p in
+    let pb : ApartFrom n b g (g + 1) (length s₁) = rw (length-run A s) (apart-and-second p) in
     let b₁ : Bits s₁ = bits-kept s pa bs in
     let ma : 1 + most a ≤ most (AND a b) = most-and-first a b in
     let mb : 1 + held a + (1 + most b) ≤ most (AND a b) = most-and-second a b in

@@ -9,39 +9,42 @@ use borrow.Author.Tests.{eq-eqb}
 use Rattle.gate.specs.declared.gates.Gate.{Gate}
 use Rattle.gate.specs.declared.gates.Gate.the-variants.{Toffoli}
 use Rattle.gate.specs.Gates.{target}
-use Rattle.gate.specs.Running.{without, undo}
-use Rattle.gate.proofs.UndoLaws.{without-none, without-both, undo-length}
+use Rattle.gate.specs.Running.{without, uncompute}
+use Rattle.gate.proofs.UncomputeLaws.{without-none, without-both, uncompute-length}
 use Rattle.program.specs.Exprs.{Expr, ZERO, ONE, INPUT, NOT, XOR, AND, size}
-use Rattle.construction.specs.Construction.{held, most, second, build, share, shares, circuit}
-use Rattle.construction.specs.Counting.{gateCount, ownCount, shareCount, sharesCount, gatesShown}
+use Rattle.construction.specs.Construction.{circuit}
+use Rattle.construction.specs.Counting.{gatesShown}
+use Rattle.construction.specs.Steps.{gateCount, ownCount, shareCount, sharesCount}
+use Rattle.construction.proofs.Numbers.{held, most, second, buildFrom, shareFrom, sharesFrom}
+use Rattle.construction.proofs.PoolLaws.{circuit-is}
 use Rattle.construction.proofs.LineLaws.{most-held, build-misses}
 
 -- a tree is built by as many gates as are counted
-pub build-length : (e : Expr) (t f : ℕ) → length (build e t f) ≡ gateCount e
-unfolding build gateCount
+pub build-length : (e : Expr) (t f : ℕ) → length (buildFrom e t f) ≡ gateCount e
+unfolding buildFrom gateCount
 build-length ZERO t f = refl
 build-length ONE t f = refl
 build-length (INPUT j) t f = refl
 build-length (NOT a) t f = omega (arith, build-length a t f)
-build-length (XOR a b) t f = omega (arith, length-append (build a t f) (build b t (f + held a)), build-length a t f, build-length b t (f + held a))
+build-length (XOR a b) t f = omega (arith, length-append (buildFrom a t f) (buildFrom b t (f + held a)), build-length a t f, build-length b t (f + held a))
 build-length (AND a b) t f =
-    let A : List Gate = build a f (f + 1) in
-    let B : List Gate = build b (second f a) (second f a + 1) in
+    let A : List Gate = buildFrom a f (f + 1) in
+    let B : List Gate = buildFrom b (second f a) (second f a + 1) in
     let T : List Gate = Toffoli f (second f a) t ∷ [] in
     omega (arith, length-append A (B ++ T), length-append B T, build-length a f (f + 1), build-length b (second f a) (second f a + 1))
 
 -- of the gates that build a tree into line t, those whose target is t are as many as are counted
-pub own-length : (e : Expr) (t f : ℕ) → t < f → length (without (eqb t) (build e t f)) + ownCount e ≡ gateCount e
-unfolding build gateCount ownCount second without target
+pub own-length : (e : Expr) (t f : ℕ) → t < f → length (without (eqb t) (buildFrom e t f)) + ownCount e ≡ gateCount e
+unfolding buildFrom gateCount ownCount second without target
 own-length ZERO t f h = refl
 own-length ONE t f h = rw (eq-eqb t t refl) refl
 own-length (INPUT j) t f h = rw (eq-eqb t t refl) refl
 own-length (NOT a) t f h = rw (eq-eqb t t refl) (omega (arith, own-length a t f h))
 own-length (XOR a b) t f h =
-    omega (arith, without-both (eqb t) (build a t f) (build b t (f + held a)), own-length a t f h, own-length b t (f + held a) (omega arith))
+    omega (arith, without-both (eqb t) (buildFrom a t f) (buildFrom b t (f + held a)), own-length a t f h, own-length b t (f + held a) (omega arith))
 own-length (AND a b) t f h =
-    let A : List Gate = build a f (f + 1) in
-    let B : List Gate = build b (second f a) (second f a + 1) in
+    let A : List Gate = buildFrom a f (f + 1) in
+    let B : List Gate = buildFrom b (second f a) (second f a + 1) in
     let T : List Gate = Toffoli f (second f a) t ∷ [] in
     let last : length (without (eqb t) T) ≡ 0 = rw (eq-eqb t t refl) refl in
     omega (
@@ -60,23 +63,22 @@ pub own-few : (e : Expr) → ownCount e ≤ gateCount e
 own-few e = omega (arith, own-length e 0 1 (omega arith))
 
 -- a share has as many gates as are counted
-pub share-length : (e : Expr) (t f : ℕ) → t < f → length (share e t f) ≡ shareCount e
-unfolding share shareCount
+pub share-length : (e : Expr) (t f : ℕ) → t < f → length (shareFrom e t f) ≡ shareCount e
+unfolding shareFrom shareCount
 share-length e t f h =
-    let gs : List Gate = build e t f in
-    omega (arith, length-append gs (undo (eqb t) gs), undo-length (eqb t) gs, build-length e t f, own-length e t f h)
+    let gs : List Gate = buildFrom e t f in
+    omega (arith, length-append gs (uncompute (eqb t) gs), uncompute-length (eqb t) gs, build-length e t f, own-length e t f h)
 
 -- and so have several together
-pub shares-length : (es : List Expr) (t f : ℕ) → t + length es ≤ f → length (shares es t f) ≡ sharesCount es
-unfolding shares sharesCount
+pub shares-length : (es : List Expr) (t f : ℕ) → t + length es ≤ f → length (sharesFrom es t f) ≡ sharesCount es
+unfolding sharesFrom sharesCount
 shares-length [] t f h = refl
 shares-length (e ∷ es) t f h =
-    omega (arith, length-append (share e t f) (shares es (t + 1) f), share-length e t f (omega arith), shares-length es (t + 1) f (omega arith))
+    omega (arith, length-append (shareFrom e t f) (sharesFrom es (t + 1) f), share-length e t f (omega arith), shares-length es (t + 1) f (omega arith))
 
 -- and so has a circuit
 pub circuit-length : (n : ℕ) (es : List Expr) → length (circuit n es) ≡ sharesCount es
-unfolding circuit
-circuit-length n es = shares-length es n (n + length es) (omega arith)
+circuit-length n es = rw (circuit-is n es) (shares-length es n (n + length es) (omega arith))
 
 -- a tree holds fewer lines than its size
 held-below-size : (e : Expr) → held e + 1 ≤ size e

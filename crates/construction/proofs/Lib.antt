@@ -1,6 +1,9 @@
 pub mod AndCases
+pub mod BuildLaws
 pub mod ComputeLaws
 pub mod CountLaws
 pub mod LineLaws
+pub mod Numbers
+pub mod PoolLaws
 pub mod RestoreLaws
 pub mod ShareLaws

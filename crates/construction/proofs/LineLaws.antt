@@ -5,16 +5,17 @@ use mathlib.Core.Path.{_≡_}
 use mathlib.Core.Logic.{_≢_}
 use mathlib.Core.List.{List}
 use lib.ListN.{length}
+use lib.Dec.{eqb}
 use borrow.Author.Tests.{ne-eqb}
 use Rattle.wire.specs.Bits.{bit, Bits}
 use Rattle.gate.specs.Gates.{target, Controls, WellFormed, All}
 use Rattle.gate.specs.Running.{run}
+use Rattle.gate.specs.Theorems.{Spares}
 use Rattle.gate.proofs.AllLaws.{all-append, all-map}
 use Rattle.gate.proofs.StepLaws.{controls-map, run-other}
 use Rattle.gate.proofs.WellFormedLaws.{ToffoliLines, not-formed, cnot-formed, toffoli-formed}
 use Rattle.program.specs.Exprs.{Expr, ZERO, ONE, INPUT, NOT, XOR, AND, InputsBelow}
-use Rattle.construction.specs.Construction.{held, most, second, build}
-use Rattle.construction.specs.Theorems.{Apart, BuildLeaves, TargetNoControl}
+use Rattle.construction.proofs.Numbers.{held, most, second, buildFrom, ApartFrom}
 
 -- nothing taken is freed before the share is over
 pub most-held : (e : Expr) → most e ≤ held e
@@ -49,93 +50,93 @@ module _ (a b : Expr) where
 
 -- where the lines of a tree are apart, so are those of its operands
 module _ {n t f L : ℕ} where
-  pub apart-not : {a : Expr} → Apart n (NOT a) t f L → Apart n a t f L
+  pub apart-not : {a : Expr} → ApartFrom n (NOT a) t f L → ApartFrom n a t f L
   apart-not {a} p = record { inputs = p .inputs; behind = p .behind; free = p .free; below = omega (arith, most-not a) }
 
   module _ {a b : Expr} where
-    pub apart-xor-first : Apart n (XOR a b) t f L → Apart n a t f L
+    pub apart-xor-first : ApartFrom n (XOR a b) t f L → ApartFrom n a t f L
     apart-xor-first p = record { inputs = p .inputs .0; behind = p .behind; free = p .free; below = omega (arith, most-xor-first a b) }
 
-    pub apart-xor-second : Apart n (XOR a b) t f L → Apart n b t (f + held a) L
+    pub apart-xor-second : ApartFrom n (XOR a b) t f L → ApartFrom n b t (f + held a) L
     apart-xor-second p = record { inputs = p .inputs .1; behind = p .behind; free = omega arith; below = omega (arith, most-xor-second a b) }
 
-    pub apart-and-first : Apart n (AND a b) t f L → Apart n a f (f + 1) L
+    pub apart-and-first : ApartFrom n (AND a b) t f L → ApartFrom n a f (f + 1) L
     apart-and-first p = record { inputs = p .inputs .0; behind = omega arith; free = omega arith; below = omega (arith, most-and-first a b) }
 
-    pub apart-and-second : Apart n (AND a b) t f L → Apart n b (second f a) (second f a + 1) L
+    pub apart-and-second : ApartFrom n (AND a b) t f L → ApartFrom n b (second f a) (second f a + 1) L
     unfolding second
     apart-and-second p = record { inputs = p .inputs .1; behind = omega arith; free = omega arith; below = omega (arith, most-and-second a b) }
 
 -- a line that is neither t nor taken is no gate's target
-pub build-misses : (e : Expr) (t f i : ℕ) → i ≢ t → (f ≤ i → f + most e ≤ i) → All (λ g. i ≢ target g) (build e t f)
-unfolding build second target
+pub build-misses : (e : Expr) (t f i : ℕ) → i ≢ t → (f ≤ i → f + most e ≤ i) → All (λ g. i ≢ target g) (buildFrom e t f)
+unfolding buildFrom second target
 build-misses ZERO t f i n h = tt
 build-misses ONE t f i n h = (n, tt)
 build-misses (INPUT j) t f i n h = (n, tt)
 build-misses (NOT a) t f i n h = (n, build-misses a t f i n (λ p. omega (arith, h p, most-not a)))
 build-misses (XOR a b) t f i n h =
-    all-append _ (build a t f) _
+    all-append _ (buildFrom a t f) _
     (build-misses a t f i n (λ p. omega (arith, h p, most-xor-first a b)))
     (build-misses b t (f + held a) i n (λ p. omega (arith, h (omega arith), most-xor-second a b)))
 build-misses (AND a b) t f i n h =
     let ma : 1 + most a ≤ most (AND a b) = most-and-first a b in
     let mb : 1 + held a + (1 + most b) ≤ most (AND a b) = most-and-second a b in
-    all-append _ (build a f (f + 1)) _
+    all-append _ (buildFrom a f (f + 1)) _
     (build-misses a f (f + 1) i (λ e. omega (arith, h (omega arith))) (λ p. omega (arith, h (omega arith))))
-    (all-append _ (build b (second f a) (second f a + 1)) _
+    (all-append _ (buildFrom b (second f a) (second f a + 1)) _
     (build-misses b (second f a) (second f a + 1) i (λ e. omega (arith, h (omega arith))) (λ p. omega (arith, h (omega arith))))
     (n, tt))
 
 -- a control below f is an input
-pub build-controls : (e : Expr) (n t f : ℕ) → InputsBelow n e → All (Controls (λ c. c < f → c < n)) (build e t f)
-unfolding build second
+pub build-controls : (e : Expr) (n t f : ℕ) → InputsBelow n e → All (Controls (λ c. c < f → c < n)) (buildFrom e t f)
+unfolding buildFrom second
 build-controls ZERO n t f w = tt
 build-controls ONE n t f w = (tt, tt)
 build-controls (INPUT j) n t f w = (λ p. w, tt)
 build-controls (NOT a) n t f w = (tt, build-controls a n t f w)
 build-controls (XOR a b) n t f w =
-    all-append _ (build a t f) _
+    all-append _ (buildFrom a t f) _
     (build-controls a n t f (w .0))
-    (all-map (controls-map (λ c h p. h (omega arith))) (build b t (f + held a)) (build-controls b n t (f + held a) (w .1)))
+    (all-map (controls-map (λ c h p. h (omega arith))) (buildFrom b t (f + held a)) (build-controls b n t (f + held a) (w .1)))
 build-controls (AND a b) n t f w =
-    all-append _ (build a f (f + 1)) _
-    (all-map (controls-map (λ c h p. h (omega arith))) (build a f (f + 1)) (build-controls a n f (f + 1) (w .0)))
-    (all-append _ (build b (second f a) (second f a + 1)) _
-    (all-map (controls-map (λ c h p. h (omega arith))) (build b (second f a) (second f a + 1)) (build-controls b n (second f a) (second f a + 1) (w .1)))
+    all-append _ (buildFrom a f (f + 1)) _
+    (all-map (controls-map (λ c h p. h (omega arith))) (buildFrom a f (f + 1)) (build-controls a n f (f + 1) (w .0)))
+    (all-append _ (buildFrom b (second f a) (second f a + 1)) _
+    (all-map (controls-map (λ c h p. h (omega arith))) (buildFrom b (second f a) (second f a + 1)) (build-controls b n (second f a) (second f a + 1) (w .1)))
     ((λ p. omega arith, λ p. omega arith), tt))
 
 -- the target is no control
-pub target-no-control : TargetNoControl
+pub target-no-control : (n : ℕ) (e : Expr) (t f L : ℕ) → ApartFrom n e t f L → All (Spares (eqb t)) (buildFrom e t f)
 target-no-control n e t f L p =
-    all-map (controls-map (λ c k. ne-eqb t c (λ q. omega (arith, k (omega arith))))) (build e t f) (build-controls e n t f (p .inputs))
+    all-map (controls-map (λ c k. ne-eqb t c (λ q. omega (arith, k (omega arith))))) (buildFrom e t f) (build-controls e n t f (p .inputs))
 
 -- each gate is well formed on the lines
-pub build-formed : (n : ℕ) (e : Expr) (t f L : ℕ) → Apart n e t f L → All (WellFormed L) (build e t f)
-unfolding build second
+pub build-formed : (n : ℕ) (e : Expr) (t f L : ℕ) → ApartFrom n e t f L → All (WellFormed L) (buildFrom e t f)
+unfolding buildFrom second
 build-formed n ZERO t f L p = tt
 build-formed n ONE t f L p = (not-formed L t (omega arith), tt)
 build-formed n (INPUT j) t f L p =
     (cnot-formed L j t (record { control-below = omega arith; target-below = omega arith; apart = omega arith }), tt)
 build-formed n (NOT a) t f L p = (not-formed L t (omega arith), build-formed n a t f L (apart-not p))
 build-formed n (XOR a b) t f L p =
-    all-append _ (build a t f) _
+    all-append _ (buildFrom a t f) _
     (build-formed n a t f L (apart-xor-first p))
     (build-formed n b t (f + held a) L (apart-xor-second p))
 build-formed n (AND a b) t f L p =
     let m : 1 + held a + (1 + most b) ≤ most (AND a b) = most-and-second a b in
     let lines : ToffoliLines L f (second f a) t =
     record { first-below = omega arith; second-below = omega arith; target-below = omega arith; controls-apart = omega arith; first-apart = omega arith; second-apart = omega arith } in
-    all-append _ (build a f (f + 1)) _
+    all-append _ (buildFrom a f (f + 1)) _
     (build-formed n a f (f + 1) L (apart-and-first p))
-    (all-append _ (build b (second f a) (second f a + 1)) _
+    (all-append _ (buildFrom b (second f a) (second f a + 1)) _
     (build-formed n b (second f a) (second f a + 1) L (apart-and-second p))
     (toffoli-formed L f (second f a) t lines, tt))
 
 -- every line but t and those taken stays as it was
-pub build-leaves : BuildLeaves
-build-leaves e t f s i n h = run-other (build e t f) s i (build-misses e t f i n h)
+pub build-leaves : (e : Expr) (t f : ℕ) (s : List ℕ) (i : ℕ) → i ≢ t → (f ≤ i → f + most e ≤ i) → bit (run (buildFrom e t f) s) i ≡ bit s i
+build-leaves e t f s i n h = run-other (buildFrom e t f) s i (build-misses e t f i n h)
 
 -- and where the lines hold bits, so does every line but t and those still held
-pub build-frees : (n : ℕ) (e : Expr) (t f : ℕ) (s : List ℕ) → Apart n e t f (length s) → Bits s
-    → (i : ℕ) → i ≢ t → (f ≤ i → f + held e ≤ i) → bit (run (build e t f) s) i ≡ bit s i
+pub build-frees : (n : ℕ) (e : Expr) (t f : ℕ) (s : List ℕ) → ApartFrom n e t f (length s) → Bits s
+    → (i : ℕ) → i ≢ t → (f ≤ i → f + held e ≤ i) → bit (run (buildFrom e t f) s) i ≡ bit s i
 build-frees n e t f s p b i ne h = build-leaves e t f s i ne (λ q. omega (arith, h q, most-held e))

@@ -1,35 +1,6 @@
--- How many gates the construction takes, counted without writing anything.
-use Prim.Native.Nat.{ℕ, _+_, _*_, _-_}
-use mathlib.Core.List.{List, [], _∷_}
-use Rattle.program.specs.Exprs.{Expr, ZERO, ONE, INPUT, NOT, XOR, AND}
+-- What is shown of a number of gates that were counted and not written.
+use Prim.Native.Nat.{ℕ}
 
--- how many gates build a tree
-unfoldable pub gateCount : Expr → ℕ
-gateCount ZERO = 0
-gateCount ONE = 1
-gateCount (INPUT j) = 1
-gateCount (NOT a) = 1 + gateCount a
-gateCount (XOR a b) = gateCount a + gateCount b
-gateCount (AND a b) = gateCount a + gateCount b + 1
-
--- how many of them have the tree's own line as their target
-unfoldable pub ownCount : Expr → ℕ
-ownCount ZERO = 0
-ownCount ONE = 1
-ownCount (INPUT j) = 1
-ownCount (NOT a) = 1 + ownCount a
-ownCount (XOR a b) = ownCount a + ownCount b
-ownCount (AND a b) = 1
-
--- how many gates a share has: those with the output's target are not undone
-unfoldable pub shareCount : Expr → ℕ
-shareCount e = 2 * gateCount e - ownCount e
-
--- how many gates the shares of several outputs have together
-unfoldable pub sharesCount : List Expr → ℕ
-sharesCount [] = 0
-sharesCount (e ∷ es) = shareCount e + sharesCount es
-
--- what counting shows of a number of gates: the number itself
+-- the number itself; it has a name because gates that marked nodes multiply (02) can be more than are counted, and the shown number will then have a largest value
 unfoldable pub gatesShown : ℕ → ℕ
 gatesShown k = k

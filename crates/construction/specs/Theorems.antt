@@ -2,6 +2,7 @@
 use Prim.Native.Nat.{ℕ, _+_, _≤_, _<_}
 use mathlib.Core.Path.{_≡_}
 use mathlib.Core.Logic.{_≢_}
+use mathlib.Core.Bool.{true, false}
 use mathlib.Core.List.{List, _++_}
 use lib.ListN.{length, getD, take, drop}
 use lib.Dec.{eqb}
@@ -11,14 +12,29 @@ use Rattle.gate.specs.Gates.{WellFormed, All}
 use Rattle.gate.specs.Running.{run}
 use Rattle.gate.specs.Theorems.{Spares}
 use Rattle.program.specs.Exprs.{Expr, ZERO, value, InputsBelow, EachBelow}
-use Rattle.construction.specs.Construction.{most, build, share, shares, circuit, linesNeeded}
+use Rattle.construction.specs.Pools.{Pool, lowestFree, isAmong, allFree}
+use Rattle.construction.specs.Construction.{Built, build, share, shares, circuit, linesNeeded}
 
--- inputs, target and work lines are apart: the inputs are below n, the target t is not, and the lines taken start at f, behind it, and end below L
+-- the line that a pool gives is free, and every work line below it is in use
+pub record LowestFree (p : Pool) : Type 0 where
+  pub is-free : isAmong (p .used) (lowestFree p) ≡ false
+  pub work : p .first ≤ lowestFree p
+  pub lowest : (i : ℕ) → p .first ≤ i → i < lowestFree p → isAmong (p .used) i ≡ true
+
+-- the gates of a tree that is built into line t where every work line from f on is free
+abbrev pub treeGates : Expr → ℕ → ℕ → List Gate
+treeGates e t f = build e t (allFree f) .gates
+
+-- the work lines that it takes
+abbrev pub treeLines : Expr → ℕ → ℕ → ℕ
+treeLines e t f = build e t (allFree f) .pool .most
+
+-- inputs, target and work lines are apart: the inputs are below n, the target t is not, and the work lines start at f, behind it, and those taken end below L
 pub record Apart (n : ℕ) (e : Expr) (t f L : ℕ) : Type 0 where
   pub inputs : InputsBelow n e
   pub behind : n ≤ t
   pub free : t < f
-  pub below : f + most e ≤ L
+  pub below : f + treeLines e t f ≤ L
 
 -- the k lines from f on hold 0
 abbrev pub Zeros : ℕ → ℕ → List ℕ → Type 0
@@ -31,41 +47,45 @@ Computes gs n e t s = bit (run gs s) t ≡ xorBit (bit s t) (value e (take n s))
 -- 001, Theorem 1: where the lines that building takes hold 0, it computes the tree on line t
 abbrev pub BuildComputes : Type 0
 BuildComputes =
-    (n : ℕ) (e : Expr) (t f : ℕ) (s : List ℕ) → Apart n e t f (length s) → Bits s → Zeros f (most e) s → Computes (build e t f) n e t s
+    (n : ℕ) (e : Expr) (t f : ℕ) (s : List ℕ) → Apart n e t f (length s) → Bits s → Zeros f (treeLines e t f) s → Computes (treeGates e t f) n e t s
 
 -- from every start, building leaves every line but t and those taken as it was
 abbrev pub BuildLeaves : Type 0
-BuildLeaves = (e : Expr) (t f : ℕ) (s : List ℕ) (i : ℕ) → i ≢ t → (f ≤ i → f + most e ≤ i) → bit (run (build e t f) s) i ≡ bit s i
+BuildLeaves = (e : Expr) (t f : ℕ) (s : List ℕ) (i : ℕ) → i ≢ t → (f ≤ i → f + treeLines e t f ≤ i) → bit (run (treeGates e t f) s) i ≡ bit s i
 
 -- the target is no control
 abbrev pub TargetNoControl : Type 0
-TargetNoControl = (n : ℕ) (e : Expr) (t f L : ℕ) → Apart n e t f L → All (Spares (eqb t)) (build e t f)
+TargetNoControl = (n : ℕ) (e : Expr) (t f L : ℕ) → Apart n e t f L → All (Spares (eqb t)) (treeGates e t f)
 
 -- every gate of a share is well formed on its lines
 abbrev pub ShareFormed : Type 0
-ShareFormed = (n : ℕ) (e : Expr) (t f L : ℕ) → Apart n e t f L → All (WellFormed L) (share e t f)
+ShareFormed = (n : ℕ) (e : Expr) (t f L : ℕ) → Apart n e t f L → All (WellFormed L) (share e t (allFree f) .gates)
 
 -- every gate of a circuit is well formed on its n inputs, its targets and the work lines needed
 abbrev pub CircuitFormed : Type 0
-CircuitFormed = (n : ℕ) (es : List Expr) → EachBelow n es → All (WellFormed (n + length es + linesNeeded es)) (circuit n es)
+CircuitFormed = (n : ℕ) (es : List Expr) → EachBelow n es → All (WellFormed (n + length es + linesNeeded n es)) (circuit n es)
 
 -- 001, Theorem 2: from every start, work lines zero or not, a share leaves every line but its target as it started
 abbrev pub ShareRestores : Type 0
 ShareRestores =
-    (n : ℕ) (e : Expr) (t f : ℕ) (s : List ℕ) → Apart n e t f (length s) → Bits s → (i : ℕ) → i ≢ t → bit (run (share e t f) s) i ≡ bit s i
+    (n : ℕ) (e : Expr) (t f : ℕ) (s : List ℕ) → Apart n e t f (length s) → Bits s → (i : ℕ) → i ≢ t → bit (run (share e t (allFree f) .gates) s) i ≡ bit s i
 
 -- a start (01): one bit for each of so many lines
 pub record Start (lines : ℕ) (start : List ℕ) : Type 0 where
   pub long : length start ≡ lines
   pub bits : Bits start
 
--- the shares of the first j outputs
+-- the shares of the first j outputs, and the pool after them
+unfoldable pub firstBuilt : ℕ → List Expr → ℕ → Built
+firstBuilt n es j = shares (take j es) n (allFree (n + length es))
+
+-- their gates
 unfoldable pub firstShares : ℕ → List Expr → ℕ → List Gate
-firstShares n es j = shares (take j es) n (n + length es)
+firstShares n es j = firstBuilt n es j .gates
 
 -- the share of output j, whose target is line n + j
 unfoldable pub shareOf : ℕ → List Expr → ℕ → List Gate
-shareOf n es j = share (getD es j ZERO) (n + j) (n + length es)
+shareOf n es j = share (getD es j ZERO) (n + j) (firstBuilt n es j .pool) .gates
 
 -- what the shares of the first j of m outputs leave of a start, where there are n inputs and w work lines, and v k is the value of output k
 pub record After (n m w : ℕ) (v : ℕ → ℕ) (j : ℕ) (start after : List ℕ) : Type 0 where
@@ -81,10 +101,10 @@ pub record After (n m w : ℕ) (v : ℕ → ℕ) (j : ℕ) (start after : List �
 -- the shares restore the lines: one claim about the whole run, with every j in it
 pub record SharesRestore (n : ℕ) (es : List Expr) : Type 0 where
   -- the first j shares open the circuit, and all of them are the circuit
-  pub opens : (j : ℕ) → j ≤ length es → circuit n es ≡ firstShares n es j ++ shares (drop j es) (n + j) (n + length es)
+  pub opens : (j : ℕ) → j ≤ length es → circuit n es ≡ firstShares n es j ++ shares (drop j es) (n + j) (firstBuilt n es j .pool) .gates
   pub whole : firstShares n es (length es) ≡ circuit n es
   -- each share finds the lines as the one before left them
   pub follows : (start : List ℕ) (j : ℕ) → j < length es → run (firstShares n es (j + 1)) start ≡ run (shareOf n es j) (run (firstShares n es j) start)
   -- the values are those on the input lines
-  pub holds : (start : List ℕ) → Start (n + length es + linesNeeded es) start → (j : ℕ) → j ≤ length es
-      → After n (length es) (linesNeeded es) (λ k. value (getD es k ZERO) (take n start)) j start (run (firstShares n es j) start)
+  pub holds : (start : List ℕ) → Start (n + length es + linesNeeded n es) start → (j : ℕ) → j ≤ length es
+      → After n (length es) (linesNeeded n es) (λ k. value (getD es k ZERO) (take n start)) j start (run (firstShares n es j) start)

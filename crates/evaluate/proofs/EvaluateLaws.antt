@@ -17,7 +17,7 @@ use Rattle.program.specs.declared.reader.Head.{Head}
 use Rattle.program.specs.Exprs.{ZERO, value}
 use Rattle.program.specs.Nodes.{nodesIn}
 use Rattle.program.specs.Programs.{Program, outputTree, outputValue, nodeValues}
-use Rattle.wire.specs.Counts.{inputsOf, outputsOf}
+use Rattle.wire.specs.Arity.{inputsOf, outputsOf}
 use Rattle.program.specs.Reading.{nodesOf, outputAt, programOf, readProgram}
 use Rattle.program.specs.Trees.{trees}
 use Rattle.program.specs.Steps.{Fillable}

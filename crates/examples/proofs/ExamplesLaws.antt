@@ -7,11 +7,11 @@ use borrow.Author.Tests.{leb-true}
 use Rattle.wire.specs.Bits.{xorBit, bitsFit}
 use Rattle.wire.specs.Checks.{lowestFrom}
 use Rattle.wire.specs.Contents.{tableFits, entriesFrom, entriesFit, entriesBytes, contentsBytes}
-use Rattle.wire.specs.Counts.{countsFit}
+use Rattle.wire.specs.Arity.{arityFits}
 use Rattle.wire.specs.Lists.{tabulateFrom}
 use Rattle.gate.specs.Gates.{target, wellFormed}
 use Rattle.gate.specs.GateBytes.{gateBytes, gatesBytes, gateAt, gateFits, fieldsFit}
-use Rattle.gate.specs.Running.{addend, step, run, without, undo}
+use Rattle.gate.specs.Running.{addend, step, run, without, uncompute}
 use Rattle.circuit.specs.Format.{openingBytes, circuitFile}
 use Rattle.circuit.specs.Reading as circuit
 use Rattle.run.specs.RunCircuit.{runForwards}
@@ -20,7 +20,8 @@ use Rattle.program.specs.Nodes.{operandsFit, nodeAt, nodeFits}
 use Rattle.program.specs.Programs.{outputTree}
 use Rattle.program.specs.Reading.{lengthsFit, outputFits, programOf, readBodies, readProgram}
 use Rattle.program.specs.Trees.{treeOf, treesFrom, trees}
-use Rattle.construction.specs.Construction.{held, most, second, build, share, shares, linesNeeded}
+use Rattle.construction.specs.Pools.{isAmong, allFree, lowestFree, takeLine, release}
+use Rattle.construction.specs.Construction.{build, share, shares, allShares, linesNeeded}
 use Rattle.construction.specs.Construction as construction
 use Rattle.construction.specs.Counting.{gatesShown}
 use Rattle.sizing.specs.Sizing.{shown, nodeSizes}
@@ -30,7 +31,7 @@ use Rattle.examples.specs.Examples.{wholeFile, norFile, threeFile, xorFi
 use Rattle.examples.proofs.RowLaws.{Known, lines-refused, area-refused, written, row}
 
 pub examples : Examples
-unfolding readProgram readBodies tableFits entriesFit entriesFrom lengthsFit countsFit nodeFits operandsFit outputFits programOf nodeAt lowestFrom size nodeSizes shown programCircuit outputTrees outputTree tabulateFrom trees treesFrom treeOf construction.circuit shares share build held most second linesNeeded gatesShown undo without target circuitFile openingBytes contentsBytes entriesBytes gatesBytes gateBytes runForwards circuit.readWithLines circuit.readCircuit circuit.readHead circuit.headIn circuit.circuitOf circuit.lengthsFit circuit.rangesFit gateFits fieldsFit wellFormed gateAt bitsFit run step addend xorBit listing headLine gateLine line field decimal places flatMap
+unfolding readProgram readBodies tableFits entriesFit entriesFrom lengthsFit arityFits nodeFits operandsFit outputFits programOf nodeAt lowestFrom size nodeSizes shown programCircuit outputTrees outputTree tabulateFrom trees treesFrom treeOf construction.circuit allShares shares share build isAmong allFree lowestFree takeLine release linesNeeded gatesShown uncompute without target circuitFile openingBytes contentsBytes entriesBytes gatesBytes gateBytes runForwards circuit.readWithLines circuit.readCircuit circuit.readHead circuit.headIn circuit.circuitOf circuit.lengthsFit circuit.rangesFit gateFits fieldsFit wellFormed gateAt bitsFit run step addend xorBit listing headLine gateLine line field decimal places flatMap
 examples =
     let whole : Known wholeFile = record { reads = refl; small = refl; few = omega arith } in
     let nor : Known norFile = record { reads = refl; small = refl; few = omega arith } in

@@ -23,7 +23,7 @@ use Rattle.compile.proofs.AcceptedLaws as compile
 use Rattle.compile.proofs.CompileLaws.{sized}
 use Rattle.compile.proofs.ProgramLaws.{sizeFits, all-small, lines-short, area-short, fits}
 use Rattle.text.specs.Lines.{ascii, listing}
-use Rattle.examples.specs.Examples.{Accepted}
+use Rattle.examples.specs.Examples.{CompiledCase}
 
 -- a file that reads as a program whose outputs are small enough and whose gates are few enough
 pub record Known (f : List ℕ) : Type 0 where
@@ -74,7 +74,7 @@ module _ {f : List ℕ} (k : Known f) where
 
   -- the row of a file that the listing accepts, and lists as text
   pub row : (text : String) → c .work ≤ 1024 → length (p .nodes) ≤ 4096 → length (circuitFile c) ≤ 64028 → listing (result c) ≡ ascii text
-      → Accepted f p (nodeSizes (p .nodes)) c text
+      → CompiledCase f p (nodeSizes (p .nodes)) c text
   unfolding compileFile readWithSizes
   row text enough listed room lists =
       record {

@@ -69,7 +69,7 @@ xorFile =
     ∷ 1 ∷ 0 ∷ []
 
 -- a file that reads as program p, compiles to circuit c and is listed as text; s has the sizes of its nodes
-pub record Accepted (file : List ℕ) (p : Program) (s : List ℕ) (c : Circuit) (text : String) : Type 0 where
+pub record CompiledCase (file : List ℕ) (p : Program) (s : List ℕ) (c : Circuit) (text : String) : Type 0 where
   pub reads : readProgram file ≡ result p
   -- for every grant from w to 1,024, every size list with an entry for each node and every area with room for the file
   pub compiles : (grant : ℕ) (sizes area : List ℕ) → c .work ≤ grant → grant ≤ 1024 → length (p .nodes) ≤ length sizes → length (circuitFile c) ≤ length area
@@ -85,7 +85,7 @@ WholeRun start after =
 -- the starred examples: a row for each, which holds whatever the size list and the area held before
 pub record Examples : Type 0 where
   -- the whole case
-  pub whole : Accepted wholeFile (record { inputs = 2; nodes = Input 0 ∷ Input 1 ∷ And 0 1 ∷ []; outputs = 2 ∷ [] }) (1 ∷ 1 ∷ 3 ∷ []) wholeCircuit
+  pub whole : CompiledCase wholeFile (record { inputs = 2; nodes = Input 0 ∷ Input 1 ∷ And 0 1 ∷ []; outputs = 2 ∷ [] }) (1 ∷ 1 ∷ 3 ∷ []) wholeCircuit
       "lines 2 1 2 gates 5\nC 0 3\nC 1 4\nT 3 4 2\nC 1 4\nC 0 3\n"
   -- its circuit file has 68 bytes
   pub whole-bytes : length (circuitFile wholeCircuit) ≡ 68
@@ -100,17 +100,17 @@ pub record Examples : Type 0 where
   -- with line 3 starting at 1, the target stays 1 and line 3 ends 1
   pub whole-line : WholeRun (1 ∷ 1 ∷ 1 ∷ 1 ∷ 0 ∷ []) (1 ∷ 1 ∷ 1 ∷ 1 ∷ 0 ∷ [])
   -- NOR as AND of two NOTs: 9 gates, w 2
-  pub nor : Accepted norFile (record { inputs = 2; nodes = Input 0 ∷ Input 1 ∷ node.Not 0 ∷ node.Not 1 ∷ And 2 3 ∷ []; outputs = 4 ∷ [] }) (1 ∷ 1 ∷ 2 ∷ 2 ∷ 5 ∷ [])
+  pub nor : CompiledCase norFile (record { inputs = 2; nodes = Input 0 ∷ Input 1 ∷ node.Not 0 ∷ node.Not 1 ∷ And 2 3 ∷ []; outputs = 4 ∷ [] }) (1 ∷ 1 ∷ 2 ∷ 2 ∷ 5 ∷ [])
       (record { inputs = 2; outputs = 1; work = 2; gates = gate.Not 3 ∷ Cnot 0 3 ∷ gate.Not 4 ∷ Cnot 1 4 ∷ Toffoli 3 4 2 ∷ Cnot 1 4 ∷ gate.Not 4 ∷ Cnot 0 3 ∷ gate.Not 3 ∷ [] })
       "lines 2 1 2 gates 9\nN 3\nC 0 3\nN 4\nC 1 4\nT 3 4 2\nC 1 4\nN 4\nC 0 3\nN 3\n"
   -- AND(AND(input 0, input 1), input 2): w 4
-  pub three : Accepted threeFile (record { inputs = 3; nodes = Input 0 ∷ Input 1 ∷ And 0 1 ∷ Input 2 ∷ And 2 3 ∷ []; outputs = 4 ∷ [] }) (1 ∷ 1 ∷ 3 ∷ 1 ∷ 5 ∷ [])
+  pub three : CompiledCase threeFile (record { inputs = 3; nodes = Input 0 ∷ Input 1 ∷ And 0 1 ∷ Input 2 ∷ And 2 3 ∷ []; outputs = 4 ∷ [] }) (1 ∷ 1 ∷ 3 ∷ 1 ∷ 5 ∷ [])
       (record { inputs = 3; outputs = 1; work = 4; gates = Cnot 0 5 ∷ Cnot 1 6 ∷ Toffoli 5 6 4 ∷ Cnot 2 7 ∷ Toffoli 4 7 3 ∷ Cnot 2 7 ∷ Toffoli 5 6 4 ∷ Cnot 1 6 ∷ Cnot 0 5 ∷ [] })
       "lines 3 1 4 gates 9\nC 0 5\nC 1 6\nT 5 6 4\nC 2 7\nT 4 7 3\nC 2 7\nT 5 6 4\nC 1 6\nC 0 5\n"
   -- a grant of 3 gives 10, place 4
   pub three-grant : (sizes area : List ℕ) → 5 ≤ length sizes
       → compileOf threeFile 3 sizes area ≡ record { answer = refused 10 4; sizes = 1 ∷ 1 ∷ 3 ∷ 1 ∷ 5 ∷ drop 5 sizes; area = area }
   -- XOR of input 0 with itself: C 0 1 twice
-  pub xor-self : Accepted xorFile (record { inputs = 1; nodes = Input 0 ∷ Xor 0 0 ∷ []; outputs = 1 ∷ [] }) (1 ∷ 3 ∷ [])
+  pub xor-self : CompiledCase xorFile (record { inputs = 1; nodes = Input 0 ∷ Xor 0 0 ∷ []; outputs = 1 ∷ [] }) (1 ∷ 3 ∷ [])
       (record { inputs = 1; outputs = 1; work = 0; gates = Cnot 0 1 ∷ Cnot 0 1 ∷ [] })
       "lines 1 1 0 gates 2\nC 0 1\nC 0 1\n"

@@ -4,5 +4,5 @@ pub mod GateLaws
 pub mod OrderCase
 pub mod ReadBackLaws
 pub mod StepLaws
-pub mod UndoLaws
+pub mod UncomputeLaws
 pub mod WellFormedLaws

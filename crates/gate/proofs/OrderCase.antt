@@ -7,7 +7,7 @@ use Rattle.wire.specs.Bits.{xorBit, bit}
 use Rattle.gate.specs.declared.gates.Gate.{Gate}
 use Rattle.gate.specs.declared.gates.Gate.the-variants.{Cnot, Toffoli}
 use Rattle.gate.specs.Gates.{target}
-use Rattle.gate.specs.Running.{addend, step, run, without, undo}
+use Rattle.gate.specs.Running.{addend, step, run, without, uncompute}
 
 -- the gates that XOR the AND of the inputs 0 to 3 into the target, line 4
 abbrev pub fourInputs : List Gate
@@ -23,6 +23,6 @@ unfolding run step target addend xorBit without
 first-to-last = refl
 
 -- undone last to first, every work line comes back, and the target holds the AND
-pub last-to-first : run (fourInputs ++ undo (eqb 4) fourInputs) allOnes ≡ 1 ∷ 1 ∷ 1 ∷ 1 ∷ 1 ∷ 0 ∷ 0 ∷ 0 ∷ 0 ∷ 0 ∷ 0 ∷ []
-unfolding run step target addend xorBit without undo
+pub last-to-first : run (fourInputs ++ uncompute (eqb 4) fourInputs) allOnes ≡ 1 ∷ 1 ∷ 1 ∷ 1 ∷ 1 ∷ 0 ∷ 0 ∷ 0 ∷ 0 ∷ 0 ∷ 0 ∷ []
+unfolding run step target addend xorBit without uncompute
 last-to-first = refl

@@ -13,10 +13,10 @@ use Rattle.wire.proofs.BitLaws.{xor-bit, and-bit, xor-twice, bit-below}
 use Rattle.gate.specs.declared.gates.Gate.{Gate}
 use Rattle.gate.specs.declared.gates.Gate.the-variants.{Not, Cnot, Toffoli}
 use Rattle.gate.specs.Gates.{target, Controls, WellFormed, All, Fits}
-use Rattle.gate.specs.Running.{addend, step, run, without, undo}
+use Rattle.gate.specs.Running.{addend, step, run, without, uncompute}
 use Rattle.gate.specs.Theorems.{Spares, BackwardsUndoes, ForwardsUndoes, Uncomputes}
 use Rattle.gate.proofs.AllLaws.{all-reverse}
-use Rattle.gate.proofs.UndoLaws.{without-at, all-without}
+use Rattle.gate.proofs.UncomputeLaws.{without-at, all-without}
 use Rattle.gate.proofs.WellFormedLaws.{target-below, target-free}
 
 -- what is XORed in depends on the controls alone
@@ -179,8 +179,8 @@ agree-without out (g ∷ gs) s s′ w n a =
 
 -- running gates and then their undoing leaves two states that agree where nothing is left out
 undone : (out : ℕ → Bool) (gs : List Gate) (s : List ℕ) → Fits gs s → All (Spares out) gs → Bits s
-    → Agree out (run (gs ++ undo out gs) s) s
-unfolding undo
+    → Agree out (run (gs ++ uncompute out gs) s) s
+unfolding uncompute
 undone out gs s w n b =
     let kept : List Gate = without out gs in
     let fits : Fits kept s = all-without _ out gs w in

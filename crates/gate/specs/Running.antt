@@ -33,5 +33,5 @@ without out [] = []
 without out (g ∷ gs) = cond (out (target g)) (without out gs) (g ∷ without out gs)
 
 -- undoing the gates except those whose target is left out: the others, reversed
-unfoldable pub undo : (ℕ → Bool) → List Gate → List Gate
-undo out gs = reverse (without out gs)
+unfoldable pub uncompute : (ℕ → Bool) → List Gate → List Gate
+uncompute out gs = reverse (without out gs)

@@ -6,7 +6,7 @@ use mathlib.Core.List.{List, _++_}
 use Rattle.wire.specs.Bits.{bit, Bits}
 use Rattle.gate.specs.declared.gates.Gate.{Gate}
 use Rattle.gate.specs.Gates.{Controls, All, Fits}
-use Rattle.gate.specs.Running.{run, runBack, undo}
+use Rattle.gate.specs.Running.{run, runBack, uncompute}
 
 -- running backwards undoes running forwards
 abbrev pub BackwardsUndoes : Type 0
@@ -24,4 +24,4 @@ Spares out g = Controls (λ c. out c ≡ false) g
 abbrev pub Uncomputes : Type 0
 Uncomputes =
     (out : ℕ → Bool) (gs : List Gate) (s : List ℕ) → Fits gs s → All (Spares out) gs → Bits s
-    → (i : ℕ) → out i ≡ false → bit (run (gs ++ undo out gs) s) i ≡ bit s i
+    → (i : ℕ) → out i ≡ false → bit (run (gs ++ uncompute out gs) s) i ≡ bit s i

@@ -10,7 +10,7 @@ use borrow.Author.Tests.{ltb-true, leb-true}
 use Rattle.wire.specs.Answers.{Answer, result, refuse, check, mapAnswer, numberOf, placeOf}
 use Rattle.wire.specs.Checks.{allBelow, lowest}
 use Rattle.wire.specs.Contents.{tableFits, entriesFit, bodyOf}
-use Rattle.wire.specs.Counts.{inputsOf, outputsOf, countsFit}
+use Rattle.wire.specs.Arity.{inputsOf, outputsOf, arityFits}
 use Rattle.wire.specs.declared.refusals.Refusal.{Refusal}
 use Rattle.wire.specs.declared.refusals.Refusal.the-variants as cause
 use Rattle.wire.proofs.AnswerLaws.{checked, checked-next, came, came-refused, Never, never-result, never-check}
@@ -66,16 +66,16 @@ ordered f p e =
 
 -- a file that reads as a program passed every test
 pub accepted : (f : List ℕ) (p : Program) → readProgram f ≡ result p → Accepted f
-unfolding readProgram countsFit
+unfolding readProgram arityFits
 accepted f p e =
-    let ranges : Answer Program = check (countsFit (bodyOf f 0)) cause.Range (readBodies f) in
+    let ranges : Answer Program = check (arityFits (bodyOf f 0)) cause.Range (readBodies f) in
     let lengths : Answer Program = check (lengthsFit f) cause.BodyLength ranges in
     let entries : Answer Program = check (entriesFit tags f) cause.Contents lengths in
     let e₂ : entries ≡ result p = checked-next p (tableFits 3 f) cause.Table entries e in
     let e₃ : lengths ≡ result p = checked-next p (entriesFit tags f) cause.Contents lengths e₂ in
     let e₄ : ranges ≡ result p = checked-next p (lengthsFit f) cause.BodyLength ranges e₃ in
-    let o = ordered f p (checked-next p (countsFit (bodyOf f 0)) cause.Range (readBodies f) e₄) in
-    let in-range : countsFit (bodyOf f 0) ≡ true = checked p (countsFit (bodyOf f 0)) cause.Range (readBodies f) e₄ in
+    let o = ordered f p (checked-next p (arityFits (bodyOf f 0)) cause.Range (readBodies f) e₄) in
+    let in-range : arityFits (bodyOf f 0) ≡ true = checked p (arityFits (bodyOf f 0)) cause.Range (readBodies f) e₄ in
     let n : Bool = leb (inputsOf f) 64 in
     let m₁ : Bool = leb 1 (outputsOf f) in
     let m₂ : Bool = leb (outputsOf f) 64 in
@@ -111,13 +111,13 @@ unfolding readProgram readBodies
 reader-room f =
     let read : Answer Program = result (programOf f) in
     let outputs : Answer Program = check (allBelow (outputFits (nodesOf f) (bodyOf f 2)) (outputsOf f)) (cause.Output (lowest (outputFits (nodesOf f) (bodyOf f 2)) (outputsOf f))) read in
-    let ranges : Answer Program = check (countsFit (bodyOf f 0)) cause.Range (readBodies f) in
+    let ranges : Answer Program = check (arityFits (bodyOf f 0)) cause.Range (readBodies f) in
     let lengths : Answer Program = check (lengthsFit f) cause.BodyLength ranges in
     let entries : Answer Program = check (entriesFit tags f) cause.Contents lengths in
     never-check 11 (tableFits 3 f) cause.Table entries (omega arith)
     (never-check 11 (entriesFit tags f) cause.Contents lengths (omega arith)
     (never-check 11 (lengthsFit f) cause.BodyLength ranges (omega arith)
-    (never-check 11 (countsFit (bodyOf f 0)) cause.Range (readBodies f) (omega arith)
+    (never-check 11 (arityFits (bodyOf f 0)) cause.Range (readBodies f) (omega arith)
     (never-check 11 (allBelow (nodeFits (inputsOf f) (bodyOf f 1)) (nodesOf f)) (cause.Node (lowest (nodeFits (inputsOf f) (bodyOf f 1)) (nodesOf f))) outputs (omega arith)
     (never-check 11 (allBelow (outputFits (nodesOf f) (bodyOf f 2)) (outputsOf f)) (cause.Output (lowest (outputFits (nodesOf f) (bodyOf f 2)) (outputsOf f))) read (omega arith)
     (never-result 11 (programOf f)))))))

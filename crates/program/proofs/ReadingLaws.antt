@@ -10,7 +10,7 @@ use borrow.Author.Tests.{eqb-true, leb-true}
 use Rattle.wire.specs.Checks.{lowest}
 use Rattle.wire.specs.Contents.{entryLength, bodyOf}
 use Rattle.wire.specs.Steps.{Laid}
-use Rattle.wire.specs.Counts.{inputsOf, outputsOf}
+use Rattle.wire.specs.Arity.{inputsOf, outputsOf}
 use Rattle.wire.proofs.CheckLaws.{both-first, both-second}
 use Rattle.wire.proofs.ContentsLaws.{body-length}
 use Rattle.wire.proofs.ListLaws.{tabulate-length}

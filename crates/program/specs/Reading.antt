@@ -6,7 +6,7 @@ use lib.Dec.{eqb, leb, ltb}
 use Rattle.wire.specs.Answers.{Answer, result, refuse, check, checkEach}
 use Rattle.wire.specs.Bytes.{at16}
 use Rattle.wire.specs.Contents.{tableFits, entriesFit, entryLength, bodyOf}
-use Rattle.wire.specs.Counts.{inputsOf, outputsOf, countsFit}
+use Rattle.wire.specs.Arity.{inputsOf, outputsOf, arityFits}
 use Rattle.wire.specs.Lists.{tabulate}
 use Rattle.wire.specs.declared.refusals.Refusal.the-variants as cause
 use Rattle.program.specs.declared.reader.Head.{Head}
@@ -60,7 +60,7 @@ readProgram f =
     check (tableFits 3 f) cause.Table  -- 1
     (check (entriesFit tags f) cause.Contents  -- 2
     (check (lengthsFit f) cause.BodyLength  -- 3
-    (check (countsFit (bodyOf f 0)) cause.Range  -- 4
+    (check (arityFits (bodyOf f 0)) cause.Range  -- 4
     (readBodies f))))
 
 -- the reader's answer in 01's terms: inputs, outputs and nodes, or a number and a place

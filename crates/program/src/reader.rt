@@ -1,11 +1,11 @@
 // The reader of program files: causes 1 to 6, in the order of their numbers.
 use crate::node::NodeRead;
 use crate::node::read_node;
+use wire::arity::arity_fits;
 use wire::contents::body;
 use wire::contents::entries_fit;
 use wire::contents::entry_length;
 use wire::contents::table_fits;
-use wire::counts::counts_fit;
 use wire::numbers::get16;
 use wire::refusals::Refusal;
 ghost use mathlib.Core.Path.{_≡_};
@@ -16,7 +16,7 @@ ghost use Rattle.wire.specs.Answers.{mapAnswer};
 ghost use Rattle.wire.specs.Checks.{lowest};
 ghost use Rattle.wire.specs.Contents.{entryLength, bodyOf};
 ghost use Rattle.wire.specs.Steps.{Laid};
-ghost use Rattle.wire.specs.Counts.{countsFit};
+ghost use Rattle.wire.specs.Arity.{arityFits};
 ghost use Rattle.program.specs.Nodes.{nodeFits};
 ghost use Rattle.program.specs.Programs.{headOf};
 ghost use Rattle.program.specs.Reading.{outputAt, outputFits, lengthsFit, readBodies, readProgram, programRead};
@@ -97,9 +97,9 @@ fn lengths_fit(file: &[u8]) -> bool
 // Whether the numbers of inputs and outputs are in range.
 fn ranges_fit(file: &[u8]) -> bool
     requires { ⌜ Laid 3 (now file) × (entryLength (now file) 0 ≡ 4) ⌝ }
-    ensures { λ r. ⌜ r ≡ countsFit (bodyOf (now (file .entry)) 0) ⌝ }
+    ensures { λ r. ⌜ r ≡ arityFits (bodyOf (now (file .entry)) 0) ⌝ }
 {
-    counts_fit(body(file, 0))
+    arity_fits(body(file, 0))
 }
 
 // The node body of a file.

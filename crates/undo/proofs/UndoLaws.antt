@@ -14,8 +14,8 @@ use Rattle.wire.specs.declared.refusals.Refusal.the-variants as cause
 use Rattle.gate.specs.declared.gates.Gate.{Gate}
 use Rattle.gate.specs.Gates.{target, Fits}
 use Rattle.gate.specs.GateBytes.{gateAt}
-use Rattle.gate.specs.Running.{without, undo}
-use Rattle.gate.proofs.UndoLaws.{without-append, without-few, undo-snoc, undo-length, one-out, one-kept}
+use Rattle.gate.specs.Running.{without, uncompute}
+use Rattle.gate.proofs.UncomputeLaws.{without-append, without-few, uncompute-snoc, uncompute-length, one-out, one-kept}
 use Rattle.gate.proofs.WellFormedLaws.{target-below}
 use Rattle.circuit.specs.declared.reader.CircuitHead.{CircuitHead}
 use Rattle.circuit.specs.Circuits.{Circuit, headOf, gatesIn, InRange}
@@ -75,10 +75,10 @@ module _ (body choices : List ℕ) where
       (omega arith, target-below (length choices) (gateAt body i) (gate-formed body (length choices) w i h))
 
   abbrev undone : List Gate → List Gate
-  undone = undo (chosen choices)
+  undone = uncompute (chosen choices)
 
   -- a loop from the last gate to the first has still to undo the first i gates, and has stored k
-  pub record Stored (area₀ area : List ℕ) (k i : ℕ) : Type 0 where
+  pub record UndoneStored (area₀ area : List ℕ) (k i : ℕ) : Type 0 where
     pub within : i ≤ length body / 8
     pub same : length area ≡ length area₀
     pub few : k + length (undone (take i (gatesIn body))) ≡ length (undone (gatesIn body))
@@ -87,10 +87,10 @@ module _ (body choices : List ℕ) where
   undone-last : (i : ℕ) → 0 < i → i ≤ length body / 8
       → undone (take i (gatesIn body)) ≡ kept (gateAt body (i - 1) ∷ []) ++ undone (take (i - 1) (gatesIn body))
   undone-last i h l =
-      ap undone (gates-last body i h l) ∙ undo-snoc (chosen choices) (take (i - 1) (gatesIn body)) (gateAt body (i - 1))
+      ap undone (gates-last body i h l) ∙ uncompute-snoc (chosen choices) (take (i - 1) (gatesIn body)) (gateAt body (i - 1))
 
   module _ (area₀ : List ℕ) where
-    pub stored-start : Stored area₀ area₀ 0 (length body / 8)
+    pub stored-start : UndoneStored area₀ area₀ 0 (length body / 8)
     stored-start =
         let whole : undone (take (length body / 8) (gatesIn body)) ≡ undone (gatesIn body) = ap undone (gates-whole body (length body / 8) refl) in
         record {
@@ -100,7 +100,7 @@ module _ (body choices : List ℕ) where
           rest = ap (putGates area₀ 0) whole;
         }
 
-    module _ {area : List ℕ} {k i : ℕ} (p : Stored area₀ area k i) where
+    module _ {area : List ℕ} {k i : ℕ} (p : UndoneStored area₀ area k i) where
       counts-last : 0 < i → length (undone (take i (gatesIn body))) ≡ length (kept (gateAt body (i - 1) ∷ [])) + length (undone (take (i - 1) (gatesIn body)))
       counts-last h =
           ap (λ (gs : List Gate). length gs) (undone-last i h (p .within))
@@ -114,7 +114,7 @@ module _ (body choices : List ℕ) where
       pub stored-next : {area′ : List ℕ} {k′ : ℕ} → 0 < i
           → area′ ≡ putGates area k (kept (gateAt body (i - 1) ∷ []))
           → k′ ≡ k + length (kept (gateAt body (i - 1) ∷ []))
-          → Stored area₀ area′ k′ (i - 1)
+          → UndoneStored area₀ area′ k′ (i - 1)
       stored-next {area′} {k′} h e g =
           let one : List Gate = kept (gateAt body (i - 1) ∷ []) in
           let more : List Gate = undone (take (i - 1) (gatesIn body)) in
@@ -126,7 +126,7 @@ module _ (body choices : List ℕ) where
           })
 
       pub stored-all : i ≤ 0 → area ≡ putGates area₀ 0 (undone (gatesIn body))
-      unfolding undo without
+      unfolding uncompute without
       stored-all h =
           let none : undone (take i (gatesIn body)) ≡ [] = ap undone (gates-first-none body i h) in
           sym (put-none area k) ∙ ap (putGates area k) (sym none) ∙ p .rest
@@ -154,12 +154,12 @@ module _ (f choices area : List ℕ) where
     gates = gatesIn (bodyOf f 1)
 
     -- the circuit that is written has so many gates
-    pub undo-gates : undoCircuit choices c .gates ≡ undo (chosen choices) gates
+    pub undo-gates : undoCircuit choices c .gates ≡ uncompute (chosen choices) gates
     unfolding undoCircuit
-    undo-gates = ap (undo (chosen choices)) (lines-gates f choices c e)
+    undo-gates = ap (uncompute (chosen choices)) (lines-gates f choices c e)
 
     undo-count : (k : ℕ) → k ≡ length (without (chosen choices) gates) → length (undoCircuit choices c .gates) ≡ k
-    undo-count k q = ap (λ (gs : List Gate). length gs) undo-gates ∙ undo-length (chosen choices) gates ∙ sym q
+    undo-count k q = ap (λ (gs : List Gate). length gs) undo-gates ∙ uncompute-length (chosen choices) gates ∙ sym q
 
     -- at most 8,000
     pub kept-few : length (without (chosen choices) gates) ≤ 8000
@@ -204,7 +204,7 @@ module _ (f choices area : List ℕ) where
     -- room: the head and then the gates are written
     pub undo-written : (k : ℕ) {area₁ area₂ : List ℕ} → k ≡ length (without (chosen choices) gates) → fileLength k ≤ length area
         → area₁ ≡ sets area 0 (openingBytes (headOf (undoCircuit choices c)))
-        → area₂ ≡ putGates area₁ 0 (undo (chosen choices) gates)
+        → area₂ ≡ putGates area₁ 0 (uncompute (chosen choices) gates)
         → Outcome (result (headOf (undoCircuit choices c))) area₂
     unfolding undoFile
     undo-written k {area₁} {area₂} q room e₁ e₂ =

@@ -13,10 +13,10 @@ use Rattle.wire.specs.declared.refusals.Refusal.{Refusal}
 use Rattle.wire.specs.declared.refusals.Refusal.the-variants as cause
 use Rattle.wire.proofs.AnswerLaws.{checked-next, same-result, led}
 use Rattle.gate.specs.Gates.{WellFormed}
-use Rattle.gate.specs.Running.{run, undo, without}
+use Rattle.gate.specs.Running.{run, uncompute, without}
 use Rattle.gate.proofs.AllLaws.{all-reverse}
 use Rattle.gate.proofs.StepLaws.{run-append, uncomputes}
-use Rattle.gate.proofs.UndoLaws.{all-without}
+use Rattle.gate.proofs.UncomputeLaws.{all-without}
 use Rattle.circuit.specs.Circuits.{Circuit, Legal, lineCount}
 use Rattle.circuit.specs.Format.{circuitFile}
 use Rattle.circuit.specs.Reading.{readWithLines}
@@ -45,7 +45,7 @@ undid f choices room d e =
 module _ (f choices : List ℕ) (d : Circuit) (u : Undid f choices d) where
   -- the circuit written is legal
   undone-legal : Legal (undoCircuit choices (u .from))
-  unfolding undoCircuit undo
+  unfolding undoCircuit uncompute
   undone-legal =
       let c : Circuit = u .from in
       let a = accepted f c (with-lines f choices c (u .reads) .reads) in
@@ -71,9 +71,9 @@ undo-restores f choices room c d s e r spares long bits i free =
     let u = undid f choices room d e in
     let w = with-lines f choices (u .from) (u .reads) in
     let same : u .from ≡ c = same-result (u .from) c (sym (w .reads) ∙ r) in
-    let gates : undo (chosen choices) (c .gates) ≡ d .gates = ap (λ (k : Circuit). undoCircuit choices k .gates) (sym same) ∙ ap (λ (k : Circuit). k .gates) (u .is) in
+    let gates : uncompute (chosen choices) (c .gates) ≡ d .gates = ap (λ (k : Circuit). undoCircuit choices k .gates) (sym same) ∙ ap (λ (k : Circuit). k .gates) (u .is) in
     let fits = rw (← long) at (formed f c (accepted f c r)) in
     let out : chosen choices i ≡ false = ne-eqb (bit choices i) 1 (omega (arith, free)) in
     ap (λ gs. bit (run gs (run (c .gates) s)) i) (sym gates)
-    ∙ ap (λ t. bit t i) (sym (run-append (c .gates) (undo (chosen choices) (c .gates)) s))
+    ∙ ap (λ t. bit t i) (sym (run-append (c .gates) (uncompute (chosen choices) (c .gates)) s))
     ∙ uncomputes (chosen choices) (c .gates) s fits spares bits i out

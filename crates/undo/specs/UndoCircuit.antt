@@ -7,7 +7,7 @@ use lib.Dec.{eqb, leb}
 use Rattle.wire.specs.Answers.{Answer, result, refuse, check, andThen}
 use Rattle.wire.specs.Bits.{bit}
 use Rattle.wire.specs.declared.refusals.Refusal.the-variants as cause
-use Rattle.gate.specs.Running.{undo}
+use Rattle.gate.specs.Running.{uncompute}
 use Rattle.circuit.specs.declared.reader.CircuitHead.{CircuitHead}
 use Rattle.circuit.specs.Circuits.{Circuit}
 use Rattle.circuit.specs.Format.{circuitFile}
@@ -22,7 +22,7 @@ chosen choices i = eqb (bit choices i) 1
 -- the circuit that undoes c except on the chosen lines: the gates that remain, reversed, under the same head
 unfoldable pub undoCircuit : List ℕ → Circuit → Circuit
 undoCircuit choices c =
-    record { inputs = c .inputs; outputs = c .outputs; work = c .work; gates = undo (chosen choices) (c .gates) }
+    record { inputs = c .inputs; outputs = c .outputs; work = c .work; gates = uncompute (chosen choices) (c .gates) }
 
 -- undoing a file into an area of so many bytes
 unfoldable pub undoFile : List ℕ → List ℕ → ℕ → Answer Circuit

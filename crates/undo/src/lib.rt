@@ -19,7 +19,7 @@ ghost use lib.ListN.{length};
 ghost use Rattle.wire.specs.Answers.{mapAnswer};
 ghost use Rattle.gate.specs.Gates.{target, Fits};
 ghost use Rattle.gate.specs.GateBytes.{gateAt};
-ghost use Rattle.gate.specs.Running.{without, undo};
+ghost use Rattle.gate.specs.Running.{without, uncompute};
 ghost use Rattle.circuit.specs.Circuits.{gatesIn, headOf};
 ghost use Rattle.circuit.specs.Format.{fileLength, areaAfter};
 ghost use Rattle.circuit.specs.Steps.{putGates};
@@ -80,8 +80,8 @@ fn append_kept(area: &mut [u8], k: usize, gates: &[u8], i: usize, choices: &[u8]
 
 // Stores the gates of a gate body that remain, last to first.
 fn write_undone(gates: &[u8], choices: &[u8], area: &mut [u8])
-    requires { ⌜ Fits (gatesIn (now gates)) (now choices) × (fileLength (length (undo (chosen (now choices)) (gatesIn (now gates)))) ≤ length (now area)) ⌝ }
-    ensures { λ _. ⌜ now (area .exit) ≡ putGates (now (area .entry)) 0 (undo (chosen (now (choices .entry))) (gatesIn (now (gates .entry)))) ⌝ }
+    requires { ⌜ Fits (gatesIn (now gates)) (now choices) × (fileLength (length (uncompute (chosen (now choices)) (gatesIn (now gates)))) ≤ length (now area)) ⌝ }
+    ensures { λ _. ⌜ now (area .exit) ≡ putGates (now (area .entry)) 0 (uncompute (chosen (now (choices .entry))) (gatesIn (now (gates .entry)))) ⌝ }
 {
     let mut k = 0;
     let mut i = gates.len() / 8;

@@ -137,17 +137,17 @@ entry-stores l at tag start len e₁ e₂ e₃ =
     ∙ simp towards-suc
 
 -- what is left to store where the number of entries and the first i of them are stored; area₀ is the area before the first entry
-pub record Stored (tags lengths area₀ area : List ℕ) (i start : ℕ) : Type 0 where
+pub record EntriesStored (tags lengths area₀ area : List ℕ) (i start : ℕ) : Type 0 where
   pub within : i ≤ length tags
   pub same : length area ≡ length area₀
   pub sum : start + total (drop i lengths) ≡ tableLength (length tags) + total lengths
   pub left : sets area (2 + 10 * i) (entriesBytes (drop i tags) (drop i lengths) start) ≡ sets area₀ 2 (entriesBytes tags lengths (tableLength (length tags)))
 
 module _ (tags lengths area₀ : List ℕ) where
-  pub stored-start : Stored tags lengths area₀ area₀ 0 (tableLength (length tags))
+  pub stored-start : EntriesStored tags lengths area₀ area₀ 0 (tableLength (length tags))
   stored-start = record { within = omega arith; same = refl; sum = refl; left = refl }
 
-  module _ {area : List ℕ} {i start : ℕ} (p : Stored tags lengths area₀ area i start) where
+  module _ {area : List ℕ} {i start : ℕ} (p : EntriesStored tags lengths area₀ area i start) where
     -- the next start is at most where the last body ends
     pub stored-small : i < length tags → length lengths ≡ length tags → start + getD lengths i 0 ≤ tableLength (length tags) + total lengths
     unfolding total
@@ -156,7 +156,7 @@ module _ (tags lengths area₀ : List ℕ) where
     pub stored-next : {area′ : List ℕ} → i < length tags → length lengths ≡ length tags
         → area′ ≡ sets area (2 + 10 * i) (bytes16 (getD tags i 0) ++ (bytes32 start ++ bytes32 (getD lengths i 0)))
         → length area′ ≡ length area
-        → Stored tags lengths area₀ area′ (i + 1) (start + getD lengths i 0)
+        → EntriesStored tags lengths area₀ area′ (i + 1) (start + getD lengths i 0)
     unfolding total
     stored-next {area′} h e w l =
         let entry : List ℕ = bytes16 (getD tags i 0) ++ (bytes32 start ++ bytes32 (getD lengths i 0)) in

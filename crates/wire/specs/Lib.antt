@@ -1,8 +1,8 @@
 pub mod Answers
+pub mod Arity
 pub mod Bits
 pub mod Bytes
 pub mod Checks
 pub mod Contents
-pub mod Counts
 pub mod Lists
 pub mod Steps

@@ -16,7 +16,7 @@ total [] = 0
 total (l ∷ ls) = l + total ls
 
 -- a table that can be written: a length for each tag, room for it, and every number small enough for its field
-pub record Writable (tags lengths : List ℕ) (room : ℕ) : Type 0 where
+pub record WritableTable (tags lengths : List ℕ) (room : ℕ) : Type 0 where
   pub paired : length lengths ≡ length tags
   pub few : length tags < 65536
   pub fits : tableLength (length tags) ≤ room

@@ -10,7 +10,7 @@ ghost use lib.ListN.{length};
 ghost use lib.Seq.{sets};
 ghost use Rattle.wire.specs.Bytes.{bytes16, bytes32};
 ghost use Rattle.wire.specs.Contents.{tableLength, tableFits, entriesFit, entryTag, entryStart, entryLength, bodyOf, contentsBytes};
-ghost use Rattle.wire.specs.Steps.{Writable};
+ghost use Rattle.wire.specs.Steps.{WritableTable};
 
 // Whether the table is there and has count entries.
 pub fn table_fits(file: &[u8], count: u16) -> bool
@@ -92,7 +92,7 @@ fn put_entry(area: &mut [u8], at: usize, tag: u16, start: u32, len: u32)
 
 // Stores the table of contents of bodies with these tags and lengths at the front of the area.
 pub fn write_contents(area: &mut [u8], tags: &[u16], lengths: &[u32])
-    requires { ⌜ Writable (now tags) (now lengths) (length (now area)) ⌝ }
+    requires { ⌜ WritableTable (now tags) (now lengths) (length (now area)) ⌝ }
     ensures { λ _. ⌜ now (area .exit) ≡ sets (now (area .entry)) 0 (contentsBytes (now (tags .entry)) (now (lengths .entry))) ⌝ }
 {
     put16(area, 0, tags.len() as u16);

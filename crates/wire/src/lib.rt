@@ -1,8 +1,8 @@
 // What every file and every service shares: numbers in bytes, the table of contents that opens a
 // file, bits kept in bytes, tests put together, and the causes for which a service refuses.
+pub mod arity;
 pub mod bits;
 pub mod checks;
 pub mod contents;
-pub mod counts;
 pub mod numbers;
 pub mod refusals;

@@ -1,7 +1,7 @@
 -- The worked case: its table is in order, and its circuit takes six work lines and thirteen gates. Assumes nothing.
 use Prim.Native.Nat.{ℕ, _<_}
 use native.Mathlib.Omega.{arith}
-use mathlib.Core.Path.{_≡_, refl, ap}
+use mathlib.Core.Path.{_≡_, refl, ap, _∙_}
 use mathlib.Core.Bool.{true}
 use mathlib.Core.List.{List, [], _∷_}
 use lib.ListN.{length}
@@ -16,12 +16,15 @@ use Rattle.program.specs.Nodes.{nodeAt, nodesIn, nodeFits, operandsFit}
 use Rattle.program.specs.Trees.{trees, treesFrom, treeOf}
 use Rattle.program.specs.Steps.{TableOk}
 use Rattle.program.proofs.NodeLaws.{node-ok}
-use Rattle.construction.specs.Construction.{held, most, linesNeeded}
-use Rattle.construction.specs.Counting.{gateCount, ownCount, shareCount, sharesCount, gatesShown}
+use Rattle.construction.specs.Construction.{linesNeeded}
+use Rattle.construction.proofs.Numbers.{held, most, mostOf}
+use Rattle.construction.proofs.PoolLaws.{lines-needed}
+use Rattle.construction.specs.Counting.{gatesShown}
+use Rattle.construction.specs.Steps.{gateCount, ownCount, shareCount, sharesCount}
 use Rattle.construct.specs.declared.counter.Needs.{Needs}
 use Rattle.construct.specs.Counters.{AllCountable, Needed}
 use Rattle.construct.specs.Tables.{treeIn, treesIn, Valid}
-use Rattle.construct.specs.Writing.{Writable}
+use Rattle.construct.specs.Writing.{CircuitRoom}
 
 -- INPUT 0, INPUT 1, AND 0 1, INPUT 2, AND 2 3, INPUT 3, AND 4 5
 abbrev pub nodes : List ℕ
@@ -53,9 +56,9 @@ ordered i h =
     let l : i < 7 = rw (tabulate-length (nodeAt nodes) 7) at h in
     rw (tabulate-at (nodeAt nodes) 7 i Zero l) (node-ok 4 nodes i (all-below (nodeFits 4 nodes) 7 in-order i l))
 
-case-lines : linesNeeded (treesIn nodes outputs) ≡ 6
-unfolding linesNeeded most held
-case-lines = ap linesNeeded case-trees
+case-lines : linesNeeded 4 (treesIn nodes outputs) ≡ 6
+unfolding mostOf most held
+case-lines = lines-needed 4 (treesIn nodes outputs) ∙ ap mostOf case-trees
 
 case-gates : sharesCount (treesIn nodes outputs) ≡ 13
 unfolding sharesCount shareCount gateCount ownCount
@@ -81,12 +84,12 @@ case-range n =
       inputs-most = omega arith;
       outputs-some = omega arith;
       outputs-most = omega arith;
-      work-most = omega (arith, n .lines-are, case-lines);
+      work-most = omega (arith, n .lines-are 4, case-lines);
       gates-most = omega (arith, n .gates-are, case-gates);
     }
 
 -- and an area of 132 bytes has room for it
-pub case-writable : (area : List ℕ) → length area ≡ 132 → Writable nodes outputs 4 area
+pub case-writable : (area : List ℕ) → length area ≡ 132 → CircuitRoom nodes outputs 4 area
 case-writable area e =
     record {
       ordered = ordered;

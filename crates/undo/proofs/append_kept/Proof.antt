@@ -16,7 +16,7 @@ use Rattle.gate.specs.GateBytes.{gateAt}
 use Rattle.gate.specs.Running.{without}
 use Rattle.circuit.specs.Steps.{putGates}
 use Rattle.undo.specs.UndoCircuit.{chosen}
-use Rattle.gate.proofs.UndoLaws.{one-out, one-kept}
+use Rattle.gate.proofs.UncomputeLaws.{one-out, one-kept}
 use Rattle.circuit.proofs.WriterLaws.{put-none}
 
 abbrev claims : lts.Claims

@@ -20,7 +20,7 @@ use Rattle.wire.specs.Answers.{result}
 use Rattle.wire.specs.Contents.{bodyOf}
 use Rattle.wire.proofs.AnswerLaws.{Came, came, came-refused}
 use Rattle.gate.specs.Running.{without}
-use Rattle.gate.proofs.UndoLaws.{undo-length}
+use Rattle.gate.proofs.UncomputeLaws.{uncompute-length}
 use Rattle.circuit.specs.declared.reader.CircuitHead.{CircuitHead}
 use Rattle.circuit.specs.Circuits.{headOf, gatesIn}
 use Rattle.circuit.specs.Format.{openingBytes}
@@ -120,7 +120,7 @@ write-undone-requires : tie.Need-write-undone-requires
 write-undone-requires c κs = let a = c .before .before .before .before .before .before .before .before .before .before .before .before .before .before .before .args in
     let g = good (c .before .before .before .before .before .before .before .before .before) in (
       rw (c .before .before .before .before .before .before .before .gate-body .ensures) (lines-formed (a .file .now) (a .choices .now) (g .from) (g .was)),
-      rw (c .before .before .before .before .before .before .before .gate-body .ensures) (omega (arith, counted (c .before .before .before .before .before .before), undo-length (chosen (a .choices .now)) (gatesIn (bodyOf (a .file .now) 1)), c .before .before .before .before .before .if1 .left, c .before .before .before .write-head .kept .0)),
+      rw (c .before .before .before .before .before .before .before .gate-body .ensures) (omega (arith, counted (c .before .before .before .before .before .before), uncompute-length (chosen (a .choices .now)) (gatesIn (bodyOf (a .file .now) 1)), c .before .before .before .before .before .if1 .left, c .before .before .before .write-head .kept .0)),
     )
 
 same-length-2 : tie.Need-same-length-2

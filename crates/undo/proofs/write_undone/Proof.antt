@@ -3,10 +3,10 @@ use Rattle.undo.proofs.write_undone.Tie as tie
 use borrow.Author.Needs.{needs}
 use Prim.Native.Nat.{_-_}
 use native.Mathlib.Omega.{arith}
-use Rattle.undo.proofs.UndoLaws.{Stored, stored-start, stored-room, stored-next, stored-all, choosable}
+use Rattle.undo.proofs.UndoLaws.{UndoneStored, stored-start, stored-room, stored-next, stored-all, choosable}
 
 abbrev Inv-loop : tie.InvT-loop
-Inv-loop gates choices area₀ k₀ i₀ area k i = Stored gates choices area₀ area k i
+Inv-loop gates choices area₀ k₀ i₀ area k i = UndoneStored gates choices area₀ area k i
 
 abbrev μ-loop : tie.MeasureT-loop
 μ-loop gates choices area₀ k₀ i₀ area k i = i

@@ -5,7 +5,7 @@ use native.Mathlib.Omega.{arith}
 use lib.ListN.{length}
 use borrow.Author.Needs.{needs}
 use Rattle.wire.specs.Bytes.{at16}
-use Rattle.wire.specs.Counts.{countsFit}
+use Rattle.wire.specs.Arity.{arityFits}
 use Rattle.wire.proofs.ContentsLaws.{body-there}
 use Rattle.circuit.proofs.ReadingLaws.{head-long, ranges-tests}
 use Rattle.circuit.proofs.reader.ranges_fit.Statement.{statement}
@@ -14,8 +14,8 @@ use Rattle.circuit.proofs.reader.ranges_fit.Tie as tie
 body-requires : tie.Need-body-requires
 body-requires c κs = body-there (c .before .pre .0) 0 (omega arith)
 
-counts-fit-requires : tie.Need-counts-fit-requires
-counts-fit-requires c κs = omega (arith, ap length (c .body .ensures), head-long _ (c .before .before .pre .0), c .before .before .pre .1)
+arity-fits-requires : tie.Need-arity-fits-requires
+arity-fits-requires c κs = omega (arith, ap length (c .body .ensures), head-long _ (c .before .before .pre .0), c .before .before .pre .1)
 
 get16-requires : tie.Need-get16-requires
 get16-requires c κs = omega (arith, ap length (c .before .body .ensures), head-long _ (c .before .before .before .pre .0), c .before .before .before .pre .1)
@@ -27,10 +27,10 @@ returns : tie.Need-returns
 returns c =
     let is = c .before .before .before .body .ensures in
     ranges-tests (c .before .before .before .before .before .args .file .now)
-    (c .before .before .counts-fit .ensures ∙ ap countsFit is)
+    (c .before .before .arity-fits .ensures ∙ ap arityFits is)
     (c .before .get16 .ensures ∙ ap (λ (b : List ℕ). at16 b 4) is)
     (c .both .ensures)
 
 pub ranges-fit-spec : {M : Type 1} → statement M
 ranges-fit-spec =
-    tie.close (tie.spec body-requires counts-fit-requires get16-requires both-requires returns)
+    tie.close (tie.spec body-requires arity-fits-requires get16-requires both-requires returns)

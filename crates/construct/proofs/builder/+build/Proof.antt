@@ -6,7 +6,7 @@ use Rattle.program.specs.Exprs.{ZERO, ONE, INPUT, NOT, XOR, AND}
 use Rattle.program.specs.Trees.{treeOf}
 use Rattle.construct.specs.Tables.{treeIn}
 use Rattle.construct.proofs.OperandLaws.{Unary, Binary, node-there, tree-is, is-not, is-xor, is-and}
-use Rattle.construct.proofs.BuiltLaws.{built-zero, built-one, built-input, built-not, built-xor, built-and, room-one, room-input, room-not, room-under, room-xor-first, room-xor-second, line-first, room-and-first, line-second, room-and-second, room-toffoli}
+use Rattle.construct.proofs.BuiltLaws.{built-from, built-zero, built-one, built-input, built-not, built-xor, built-and, room-one, room-input, room-not, room-under, room-xor-first, room-xor-second, line-first, room-and-first, line-second, room-and-second, room-toffoli}
 use borrow.Author.Needs.{needs}
 use Prim.Native.Nat.{ℕ, _<_}
 use borrow.Fn.Kinds.{In}
@@ -112,7 +112,7 @@ module _ (t : ℕ) where
       let m = c .before .before .before .before .before .before .before .before .before .before .before .pre .1 in
       let v = c .before .before .before .build2 .ensures in (
         omega (arith, k .second .low, c .before .before .before .before .before .before .before .before .before .before .before .pre .0),
-        room-xor-second m k v (c .before .before .before .build2 .kept .1 .1 .1 .1 .1 .0) (omega (arith, m .taken, v .free-to)) (omega (arith, v .stored .count-to)) (omega (arith, v .free-to)),
+        room-xor-second m k v (c .before .before .before .build2 .kept .1 .1 .1 .1 .1 .0) (omega (arith, m .taken, built-from v .free-to)) (omega (arith, built-from v .stored .count-to)) (omega (arith, built-from v .free-to)),
       )
 
   enum-known-node-4 : build-lts.Need-enum-known-node-4 (claims t) (build-at t) build.Post
@@ -139,7 +139,7 @@ module _ (t : ℕ) where
   cast-second c =
       let u = c .before .before .before .before .take-line .ensures in
       let v = c .before .before .build4 .ensures in
-      omega (arith, line-second (c .before .before .before .before .before .before .before .before .before .before .before .pre .1) (as-and (c .before .before .before .before .before .before)) u v, u, v .free-to)
+      omega (arith, line-second (c .before .before .before .before .before .before .before .before .before .before .before .pre .1) (as-and (c .before .before .before .before .before .before)) u v, u, built-from v .free-to)
 
   cast-build-5 : build-lts.Need-cast-build-5 (claims t) (build-at t) build.Post
   cast-build-5 c = search needs
@@ -154,7 +154,7 @@ module _ (t : ℕ) where
       let v = c .before .before .before .before .build4 .ensures in
       let u′ = c .before .take-line2 .ensures in (
         omega (arith, k .second .low, c .before .before .before .before .before .before .before .before .before .before .before .before .before .pre .0),
-        room-and-second (c .before .before .before .before .before .before .before .before .before .before .before .before .before .pre .1) k u v u′ (omega (arith, u, v .free-to, u′)) (c .before .before .before .before .build4 .kept .1 .1 .1 .1 .1 .0),
+        room-and-second (c .before .before .before .before .before .before .before .before .before .before .before .before .before .pre .1) k u v u′ (omega (arith, u, built-from v .free-to, u′)) (c .before .before .before .before .build4 .kept .1 .1 .1 .1 .1 .0),
       )
 
   append-requires-4 : build-lts.Need-append-requires-4 (claims t) (build-at t) build.Post

@@ -12,7 +12,7 @@ use Rattle.wire.specs.Contents.{bodyOf}
 use Rattle.wire.specs.Steps.{Laid}
 use Rattle.program.specs.Nodes.{nodeFits}
 use Rattle.wire.proofs.ContentsLaws.{body-there}
-use Rattle.wire.specs.Counts.{inputsOf, outputsOf}
+use Rattle.wire.specs.Arity.{inputsOf, outputsOf}
 use Rattle.program.specs.Reading.{nodesOf, lengthsFit, outputFits, programOf, readBodies}
 use Rattle.program.proofs.ReadingLaws.{Sized, sized, head-long, nodes-lowest, outputs-lowest, head-of}
 use borrow.Author.Needs.{needs}

@@ -3,7 +3,7 @@ use mathlib.Core.Bool.{true}
 use borrow.Author.Tests.{not-true, not-false}
 use Rattle.wire.specs.Contents.{tableFits, entriesFit, bodyOf}
 use Rattle.wire.specs.Steps.{Laid}
-use Rattle.wire.specs.Counts.{countsFit}
+use Rattle.wire.specs.Arity.{arityFits}
 use Rattle.wire.proofs.ContentsLaws.{table-whole, laid}
 use Rattle.program.specs.Reading.{tags, lengthsFit, readProgram}
 use Rattle.program.proofs.ReadingLaws.{sized}
@@ -42,7 +42,7 @@ entries c = sym (c .before .entries-fit .ensures) ∙ not-false _ (c .if2 .left)
 lengths : (c : lts.Else3 claims reads.Pre reads.Post) → lengthsFit (c .before .before .before .before .before .before .before .before .args .file .now) ≡ true
 lengths c = sym (c .before .lengths-fit .ensures) ∙ not-false _ (c .if3 .left)
 
-ranges : (c : lts.Else4 claims reads.Pre reads.Post) → countsFit (bodyOf (c .before .before .before .before .before .before .before .before .before .before .args .file .now) 0) ≡ true
+ranges : (c : lts.Else4 claims reads.Pre reads.Post) → arityFits (bodyOf (c .before .before .before .before .before .before .before .before .before .before .args .file .now) 0) ≡ true
 ranges c = sym (c .before .ranges-fit .ensures) ∙ not-false _ (c .if4 .left)
 
 -- and what they say of the file

@@ -1,6 +1,6 @@
 use mathlib.Core.Path.{_∙_}
 use native.Mathlib.Omega.{arith}
-use Rattle.wire.proofs.ContentsLaws.{Stored, stored-start, stored-next, stored-all, stored-small}
+use Rattle.wire.proofs.ContentsLaws.{EntriesStored, stored-start, stored-next, stored-all, stored-small}
 use borrow.Author.Needs.{needs}
 use Prim.Native.Nat.{_-_}
 use lib.ListN.{length}
@@ -8,7 +8,7 @@ use Rattle.wire.proofs.contents.write_contents.Statement.{statement}
 use Rattle.wire.proofs.contents.write_contents.Tie as tie
 
 abbrev Inv-loop : tie.InvT-loop
-Inv-loop area₀ tags lengths start₀ i₀ area start i = Stored tags lengths area₀ area i start
+Inv-loop area₀ tags lengths start₀ i₀ area start i = EntriesStored tags lengths area₀ area i start
 
 abbrev μ-loop : tie.MeasureT-loop
 μ-loop area₀ tags lengths start₀ i₀ area start i = length tags - i

@@ -1,4 +1,4 @@
--- The numbers of inputs and of outputs, with which the first body of both files opens.
+-- The numbers of inputs and of outputs (a function's arity), with which the first body of both files opens.
 use Prim.Native.Nat.{ℕ}
 use mathlib.Core.Bool.{Bool, _&&_}
 use mathlib.Core.List.{List}
@@ -15,5 +15,5 @@ abbrev pub outputsOf : List ℕ → ℕ
 outputsOf f = at16 (bodyOf f 0) 2
 
 -- the test of cause 4 that both files share, on the first body: at most 64 inputs, 1 to 64 outputs
-unfoldable pub countsFit : List ℕ → Bool
-countsFit head = leb (at16 head 0) 64 && (leb 1 (at16 head 2) && leb (at16 head 2) 64)
+unfoldable pub arityFits : List ℕ → Bool
+arityFits head = leb (at16 head 0) 64 && (leb 1 (at16 head 2) && leb (at16 head 2) 64)

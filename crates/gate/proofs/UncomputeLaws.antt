@@ -10,7 +10,7 @@ use lib.Dec.{eqb}
 use borrow.Author.Tests.{eqb-true}
 use Rattle.gate.specs.declared.gates.Gate.{Gate}
 use Rattle.gate.specs.Gates.{target, All}
-use Rattle.gate.specs.Running.{without, undo}
+use Rattle.gate.specs.Running.{without, uncompute}
 use Rattle.wire.proofs.CheckLaws.{by-test}
 
 -- a case on whether the first gate is left out
@@ -61,17 +61,17 @@ unfolding without
 single out g = by-test (out (target g)) (λ e. rw e refl) (λ e. rw e refl)
 
 -- undoing one gate more undoes it first
-pub undo-snoc : (out : ℕ → Bool) (gs : List Gate) (g : Gate) → undo out (gs ++ (g ∷ [])) ≡ without out (g ∷ []) ++ undo out gs
-unfolding undo
-undo-snoc out gs g =
+pub uncompute-snoc : (out : ℕ → Bool) (gs : List Gate) (g : Gate) → uncompute out (gs ++ (g ∷ [])) ≡ without out (g ∷ []) ++ uncompute out gs
+unfolding uncompute
+uncompute-snoc out gs g =
     ap reverse (without-append out gs (g ∷ []))
     ∙ reverse-append (without out gs) (without out (g ∷ []))
     ∙ ap (λ (l : List Gate). l ++ reverse (without out gs)) (single out g)
 
 -- as many gates are undone as remain
-pub undo-length : (out : ℕ → Bool) (gs : List Gate) → length (undo out gs) ≡ length (without out gs)
-unfolding undo
-undo-length out gs = length-reverse (without out gs)
+pub uncompute-length : (out : ℕ → Bool) (gs : List Gate) → length (uncompute out gs) ≡ length (without out gs)
+unfolding uncompute
+uncompute-length out gs = length-reverse (without out gs)
 
 -- no more gates remain than there were
 pub without-few : (out : ℕ → Bool) (gs : List Gate) → length (without out gs) ≤ length gs

@@ -5,16 +5,16 @@ use mathlib.Core.List.{List}
 use lib.Dec.{leb}
 use borrow.Author.Needs.{needs}
 use Rattle.wire.specs.Bytes.{at16}
-use Rattle.wire.specs.Counts.{countsFit}
-use Rattle.wire.proofs.counts.counts_fit.Statement.{statement}
-use Rattle.wire.proofs.counts.counts_fit.Tie as tie
+use Rattle.wire.specs.Arity.{arityFits}
+use Rattle.wire.proofs.arity.arity_fits.Statement.{statement}
+use Rattle.wire.proofs.arity.arity_fits.Tie as tie
 
 -- the tests, put together step by step
 counts-tests : (head : List ℕ) {n m : ℕ} {outputs r : Bool} → n ≡ at16 head 0 → m ≡ at16 head 2
     → outputs ≡ (leb 1 m && leb m 64)
     → r ≡ (leb n 64 && outputs)
-    → r ≡ countsFit head
-unfolding countsFit
+    → r ≡ arityFits head
+unfolding arityFits
 counts-tests head pn pm t₁ t₀ =
     t₀ ∙ ap₂ _&&_ (ap (λ (n : ℕ). leb n 64) pn) (t₁ ∙ ap (λ (m : ℕ). leb 1 m && leb m 64) pm)
 
@@ -35,6 +35,6 @@ returns c =
     counts-tests (c .before .before .before .before .before .args .head .now) (c .before .before .get162 .ensures) (c .before .before .before .get16 .ensures)
     (c .before .both .ensures) (c .both2 .ensures)
 
-pub counts-fit-spec : {M : Type 1} → statement M
-counts-fit-spec =
+pub arity-fits-spec : {M : Type 1} → statement M
+arity-fits-spec =
     tie.close (tie.spec get16-requires get16-requires-2 both-requires both-requires-2 returns)

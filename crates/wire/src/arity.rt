@@ -4,12 +4,12 @@ use crate::numbers::get16;
 ghost use mathlib.Core.Path.{_≡_};
 ghost use Prim.Native.Nat.{_≤_};
 ghost use lib.ListN.{length};
-ghost use Rattle.wire.specs.Counts.{countsFit};
+ghost use Rattle.wire.specs.Arity.{arityFits};
 
 // Whether the numbers of inputs and outputs are in range.
-pub fn counts_fit(head: &[u8]) -> bool
+pub fn arity_fits(head: &[u8]) -> bool
     requires { ⌜ 4 ≤ length (now head) ⌝ }
-    ensures { λ r. ⌜ r ≡ countsFit (now (head .entry)) ⌝ }
+    ensures { λ r. ⌜ r ≡ arityFits (now (head .entry)) ⌝ }
 {
     let outputs = get16(head, 2);
     both(get16(head, 0) <= 64, both(1 <= outputs, outputs <= 64))

@@ -1,0 +1,55 @@
+-- The construction by numbers, a shortcut: where the lines in use are the first ones, the lowest free line is a number and the pool is not needed.
+use Prim.Native.Nat.{ℕ, _+_, _≤_, _<_, max}
+use mathlib.Core.List.{List, [], _∷_, _++_}
+use lib.ListN.{length}
+use lib.Dec.{eqb}
+use Rattle.gate.specs.declared.gates.Gate.{Gate}
+use Rattle.gate.specs.declared.gates.Gate.the-variants.{Not, Cnot, Toffoli}
+use Rattle.gate.specs.Running.{uncompute}
+use Rattle.program.specs.Exprs.{Expr, ZERO, ONE, INPUT, NOT, XOR, AND, InputsBelow}
+
+-- how many work lines a tree still holds when it is built
+unfoldable pub held : Expr → ℕ
+held ZERO = 0
+held ONE = 0
+held (INPUT j) = 0
+held (NOT a) = held a
+held (XOR a b) = held a + held b
+held (AND a b) = 1 + held a + (1 + held b)
+
+-- the most work lines that building a tree holds together
+unfoldable pub most : Expr → ℕ
+most e = held e
+
+-- the line of an AND's second operand, where the first is built on line f
+unfoldable pub second : ℕ → Expr → ℕ
+second f a = f + 1 + held a
+
+-- the gates that XOR a tree into line t where f is the lowest free line
+unfoldable pub buildFrom : Expr → ℕ → ℕ → List Gate
+buildFrom ZERO t f = []
+buildFrom ONE t f = Not t ∷ []
+buildFrom (INPUT j) t f = Cnot j t ∷ []
+buildFrom (NOT a) t f = Not t ∷ buildFrom a t f
+buildFrom (XOR a b) t f = buildFrom a t f ++ buildFrom b t (f + held a)
+buildFrom (AND a b) t f = buildFrom a f (f + 1) ++ (buildFrom b (second f a) (second f a + 1) ++ (Toffoli f (second f a) t ∷ []))
+
+-- the gates of a share, and of several
+unfoldable pub shareFrom : Expr → ℕ → ℕ → List Gate
+shareFrom e t f = buildFrom e t f ++ uncompute (eqb t) (buildFrom e t f)
+
+unfoldable pub sharesFrom : List Expr → ℕ → ℕ → List Gate
+sharesFrom [] t f = []
+sharesFrom (e ∷ es) t f = shareFrom e t f ++ sharesFrom es (t + 1) f
+
+-- the most work lines that any of several trees holds together
+unfoldable pub mostOf : List Expr → ℕ
+mostOf [] = 0
+mostOf (e ∷ es) = max (most e) (mostOf es)
+
+-- inputs, target and work lines are apart: the inputs are below n, the target t is not, and the lines taken start at f, behind it, and end below L
+pub record ApartFrom (n : ℕ) (e : Expr) (t f L : ℕ) : Type 0 where
+  pub inputs : InputsBelow n e
+  pub behind : n ≤ t
+  pub free : t < f
+  pub below : f + most e ≤ L
