@@ -5,12 +5,13 @@ use mathlib.Core.Path.{_≡_, refl, sym, ap, _∙_, subst}
 use mathlib.Core.List.{List}
 use lib.ListN.{length, take, drop}
 use lib.Seq.{take-at, length-take-le}
-use Rattle.wire.specs.Answers.{result, mapAnswer}
+use Rattle.wire.specs.Answers.{Answer, result, mapAnswer}
 use Rattle.wire.specs.Bits.{xorBit, bit}
 use Rattle.wire.proofs.AnswerLaws.{same-result}
 use Rattle.wire.proofs.BitLaws.{bits-pass, bits-take}
 use Rattle.gate.specs.declared.gates.Gate.{Gate}
 use Rattle.gate.specs.Running.{run}
+use Rattle.circuit.specs.declared.reader.CircuitHead.{CircuitHead}
 use Rattle.circuit.specs.Circuits.{Circuit, lineCount}
 use Rattle.circuit.specs.Reading.{readCircuit}
 use Rattle.circuit.proofs.AcceptedLaws.{has-lines}
@@ -26,7 +27,7 @@ use Rattle.construction.proofs.RestoreLaws.{shares-restore}
 use Rattle.evaluate.specs.Evaluating.{evaluateOf}
 use Rattle.evaluate.proofs.EvaluateLaws.{output-answered}
 use Rattle.compile.specs.Compiling.{outputTrees, programCircuit, compileOf}
-use Rattle.compile.specs.Demand.{fileWritten, firstOutputs, Run, Demand3}
+use Rattle.compile.specs.Demand.{fileWritten, firstOutputs, Run, Demand3, Demand3Holds}
 use Rattle.compile.proofs.OutputLaws.{trees-length, tree-is, trees-inputs}
 use Rattle.compile.proofs.AcceptedLaws.{accepted, legal, written}
 
@@ -102,7 +103,7 @@ module _ (f : List ℕ) (a : program.Accepted f) (start : List ℕ) (s : Start (
   }
 
 -- demand 3
-pub demand-3 : (file : List ℕ) (grant : ℕ) (sizes area : List ℕ) → Demand3 file grant sizes area
+pub demand-3 : Demand3Holds
 demand-3 file grant sizes area = record {
   kept = λ h e.
       let a = accepted file grant sizes area h e in
@@ -121,3 +122,8 @@ demand-3 file grant sizes area = record {
             (λ s. run-is file (a .reads) start s g back);
       };
 }
+
+-- and of an answer and an area that are what compiling gives and leaves
+pub demand-met : (file : List ℕ) (grant : ℕ) (sizes area : List ℕ) {answer : Answer CircuitHead} {after : List ℕ}
+    → answer ≡ compileOf file grant sizes area .answer → after ≡ compileOf file grant sizes area .area → Demand3 file answer after
+demand-met file grant sizes area e q = rw (e, q) (demand-3 file grant sizes area)

@@ -53,7 +53,7 @@ module _ (file : List ℕ) (grant : ℕ) (sizes area lines : List ℕ) where
     led-to = rw e refl
 
     -- a start's run is done and ends as demand 3 says
-    run-ends : Demand3 file grant sizes area → Start (headLines h) lines → Ended file h lines (done (runForwards written lines)) (linesAfter (runForwards written lines) lines)
+    run-ends : Demand3 file (compileOf file grant sizes area .answer) (compileOf file grant sizes area .area) → Start (headLines h) lines → Ended file h lines (done (runForwards written lines)) (linesAfter (runForwards written lines) lines)
     run-ends d s =
         let k = d .kept h e in
         let p : Program = k .program in
@@ -72,7 +72,7 @@ module _ (file : List ℕ) (grant : ℕ) (sizes area lines : List ℕ) where
         }
 
     -- the run of the file written
-    pub compiled-run : Demand3 file grant sizes area → {a : Answer ℕ} {after : List ℕ} → a ≡ done (runForwards written lines) → after ≡ linesAfter (runForwards written lines) lines → Outcome a after
+    pub compiled-run : Demand3 file (compileOf file grant sizes area .answer) (compileOf file grant sizes area .area) → {a : Answer ℕ} {after : List ℕ} → a ≡ done (runForwards written lines) → after ≡ linesAfter (runForwards written lines) lines → Outcome a after
     compiled-run d {a} {after} answer exit =
         record {
           answer = answer ∙ ap done (sym led-to);

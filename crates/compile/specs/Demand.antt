@@ -3,7 +3,7 @@ use Prim.Native.Nat.{ℕ, _+_, _≤_, _<_}
 use mathlib.Core.Path.{_≡_}
 use mathlib.Core.List.{List}
 use lib.ListN.{length, take}
-use Rattle.wire.specs.Answers.{result}
+use Rattle.wire.specs.Answers.{Answer, result}
 use Rattle.gate.specs.declared.gates.Gate.{Gate}
 use Rattle.gate.specs.Running.{run}
 use Rattle.circuit.specs.declared.reader.CircuitHead.{CircuitHead}
@@ -52,6 +52,10 @@ pub record Kept (file : List ℕ) (h : CircuitHead) (written : List ℕ) : Type 
   -- and every start of its lines is run as above
   pub every : (c : Circuit) → readCircuit written ≡ result c → (start : List ℕ) → Start (lineCount c) start → Run file program written c start
 
--- demand 3: it holds of every file that compiling accepts, whatever the grant and the lent areas held
-pub record Demand3 (file : List ℕ) (grant : ℕ) (sizes area : List ℕ) : Type 0 where
-  pub kept : (h : CircuitHead) → compileOf file grant sizes area .answer ≡ result h → Kept file h (fileWritten h (compileOf file grant sizes area .area))
+-- demand 3, of the answer that compiling a file gave and the area that it left: where the answer is a result, so that the program is accepted (01), it holds of the file at the start of the area
+pub record Demand3 (file : List ℕ) (answer : Answer CircuitHead) (area : List ℕ) : Type 0 where
+  pub kept : (h : CircuitHead) → answer ≡ result h → Kept file h (fileWritten h area)
+
+-- and that is so of every file, whatever the grant was and the lent areas held
+abbrev pub Demand3Holds : Type 0
+Demand3Holds = (file : List ℕ) (grant : ℕ) (sizes area : List ℕ) → Demand3 file (compileOf file grant sizes area .answer) (compileOf file grant sizes area .area)

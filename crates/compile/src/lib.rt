@@ -109,7 +109,7 @@ pub fn compile(file: &[u8], grant: u64, sizes: &mut [u16], area: &mut [u8]) -> C
     ensures { λ r. ⌜ compiled r ≡ compileOf (now (file .entry)) grant (now (sizes .entry)) (now (area .entry)) .answer ⌝ }
     ensures { λ _. ⌜ now (sizes .exit) ≡ compileOf (now (file .entry)) grant (now (sizes .entry)) (now (area .entry)) .sizes ⌝ }
     ensures { λ _. ⌜ now (area .exit) ≡ compileOf (now (file .entry)) grant (now (sizes .entry)) (now (area .entry)) .area ⌝ }
-    ensures { λ _. ⌜ Demand3 (now (file .entry)) grant (now (sizes .entry)) (now (area .entry)) ⌝ }
+    ensures { λ r. ⌜ Demand3 (now (file .entry)) (compiled r) (now (area .exit)) ⌝ }
 {
     let answer = read_program(file);
     let ProgramRead::Good(head) = answer else {

@@ -29,8 +29,7 @@ ghost use Rattle.program.specs.Programs.{Program};
 ghost use Rattle.program.specs.Reading.{readProgram};
 ghost use Rattle.evaluate.specs.Evaluating.{evaluateOf};
 ghost use Rattle.compile.specs.Compiling.{compileOf};
-ghost use Rattle.compile.specs.Demand.{Demand3};
-ghost use Rattle.oracle.specs.Exported.{exported};
+ghost use Rattle.oracle.specs.Exported.{exported, ExportedDemand3};
 
 // Number 0 and the value of a result, or the number and the place of a refusal.
 #[repr(C)]
@@ -164,7 +163,7 @@ pub extern "C" fn oracle_compile(
     ensures { λ r. ⌜ r ≡ exported (mapAnswer (λ h. fileLength (h .gates)) (compileOf (now (file .entry)) grant (now (sizes .entry)) (now (area .entry)) .answer)) ⌝ }
     ensures { λ _. ⌜ now (sizes .exit) ≡ compileOf (now (file .entry)) grant (now (sizes .entry)) (now (area .entry)) .sizes ⌝ }
     ensures { λ _. ⌜ now (area .exit) ≡ compileOf (now (file .entry)) grant (now (sizes .entry)) (now (area .entry)) .area ⌝ }
-    ensures { λ _. ⌜ Demand3 (now (file .entry)) grant (now (sizes .entry)) (now (area .entry)) ⌝ }
+    ensures { λ r. ⌜ ExportedDemand3 (now (file .entry)) r (now (area .exit)) ⌝ }
 {
     match compile(file, grant, sizes, area) {
         Compiled::Written(head) => written(head),

@@ -1,10 +1,11 @@
 -- Laws of answers: what a chain of checks that ends in a result says of its tests. Assumes nothing.
-use Prim.Native.Nat.{ℕ}
+use Prim.Native.Nat.{ℕ, _≤_}
 use native.Mathlib.Omega.{arith}
 use mathlib.Core.Path.{_≡_, refl, _∙_}
 use mathlib.Core.Logic.{_≢_}
 use mathlib.Core.Bool.{Bool, true, false}
 use Rattle.wire.specs.declared.refusals.Refusal.{Refusal}
+use Rattle.wire.specs.declared.refusals.Refusal.the-variants as cause
 use Rattle.wire.specs.Answers.{Answer, result, refused, refuse, check, mapAnswer, andThen, numberOf, placeOf}
 use Rattle.wire.proofs.CheckLaws.{by-test}
 
@@ -81,3 +82,21 @@ never-check k test why next h never n p e =
 pub never-then : {A B : Type 0} (k : ℕ) (x : Answer A) (f : A → Answer B) → Never k x → ((a : A) → Never k (f a)) → Never k (andThen x f)
 never-then k (result a) f never next n p e = next a n p e
 never-then k (refused m q) f never next n p e = let z : m ≡ n = cc in λ w. never m q refl (z ∙ w)
+
+-- no refusal has the number 0, which is a result's
+pub number-some : (why : Refusal) → 1 ≤ numberOf why
+number-some cause.Table = omega arith
+number-some cause.Contents = omega arith
+number-some cause.BodyLength = omega arith
+number-some cause.Range = omega arith
+number-some (cause.Node p) = omega arith
+number-some (cause.Output p) = omega arith
+number-some cause.ListLength = omega arith
+number-some (cause.Size p) = omega arith
+number-some cause.Grant = omega arith
+number-some (cause.WorkLines p) = omega arith
+number-some (cause.Room p) = omega arith
+number-some (cause.Gate p) = omega arith
+number-some cause.LineBytes = omega arith
+number-some cause.InputBytes = omega arith
+number-some cause.OutputNumber = omega arith

@@ -6,7 +6,7 @@ use Rattle.circuit.specs.declared.reader.CircuitHead.{CircuitHead}
 use Rattle.compile.specs.Compiling.{compiled}
 use Rattle.compile.proofs.AcceptedLaws.{accepted}
 use Rattle.oracle.specs.Exported.{exported}
-use Rattle.oracle.proofs.ExportLaws.{fileBytes}
+use Rattle.oracle.proofs.ExportLaws.{fileBytes, demand-written, demand-refused}
 use Rattle.oracle.proofs.oracle_compile.Statement.{statement}
 use Rattle.oracle.proofs.oracle_compile.Tie as tie
 
@@ -38,7 +38,7 @@ same-length-2 c = search needs
 returns : tie.Need-returns
 returns c =
     let e = c .before .before .before .before .before .before .before .before .compile .ensures in
-    (c .written .ensures ∙ ap (λ y. exported (mapAnswer fileBytes y)) (sym (ap compiled (c .before .before .head .given .1)) ∙ e .0), e .1)
+    (c .written .ensures ∙ ap (λ y. exported (mapAnswer fileBytes y)) (sym (ap compiled (c .before .before .head .given .1)) ∙ e .0), (e .1 .0, (e .1 .1 .0, demand-written (e .1 .1 .1) _ (ap compiled (c .before .before .head .given .1)) (c .written .ensures))))
 
 same-length-3 : tie.Need-same-length-3
 same-length-3 c = search needs
@@ -49,7 +49,7 @@ same-length-4 c = search needs
 returns-2 : tie.Need-returns-2
 returns-2 c =
     let e = c .before .before .before .before .before .before .before .before .compile .ensures in
-    (c .refusal .ensures ∙ ap (λ y. exported (mapAnswer fileBytes y)) (sym (ap compiled (c .before .before .why .given .1)) ∙ e .0), e .1)
+    (c .refusal .ensures ∙ ap (λ y. exported (mapAnswer fileBytes y)) (sym (ap compiled (c .before .before .why .given .1)) ∙ e .0), (e .1 .0, (e .1 .1 .0, demand-refused _ _ (c .before .before .why .given .0 .0) (c .refusal .ensures))))
 
 pub oracle-compile-spec : {M : Type 1} → statement M
 oracle-compile-spec =

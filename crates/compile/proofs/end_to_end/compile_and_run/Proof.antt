@@ -89,7 +89,7 @@ returns-2 c =
     let k = c .before .before .before .before .before .before .before .before .before .before .before .before .before .compile .ensures in
     let h = c .before .before .before .before .before .before .before .answer .given .0 .0 in
     let r = c .before .before .run-forwards .ensures in
-    let o = compiled-run (a .file .now) (a .grant) (a .sizes .now) (a .area .now) (a .lines .now) h (written (c .before .before .before .before .before .before .before)) (k .1 .1 .1) (rw (k .1 .1 .0) at (r .0)) (rw (k .1 .1 .0) at (r .1)) in
+    let o = compiled-run (a .file .now) (a .grant) (a .sizes .now) (a .area .now) (a .lines .now) h (written (c .before .before .before .before .before .before .before)) (rw (k .0, k .1 .1 .0) at (k .1 .1 .1)) (rw (k .1 .1 .0) at (r .0)) (rw (k .1 .1 .0) at (r .1)) in
     (o .answer, (k .1 .0, (k .1 .1 .0, (o .lines-are, o .ends))))
 
 pub compile-and-run-spec : {M : Type 1} → statement M
