@@ -15,7 +15,7 @@
 extern "C" {
 #endif
 
-/* What a service answers.
+/* What a service other than the two readers answers.
  *
  * number  0 for a result, else the number of the cause for which the service refused (the table
  *         of causes is in README.md);
@@ -27,11 +27,33 @@ typedef struct {
     uint64_t value;
 } oracle_answer;
 
+/* What the two readers answer.
+ *
+ * number   as in oracle_answer;
+ * value    of a result, the number of nodes of a program or of gates of a circuit; of a refusal,
+ *          its place, 0 where the cause has none;
+ * inputs   the number of inputs;
+ * outputs  the number of outputs;
+ * work     the number of work lines of a circuit; 0 for a program, which has none.
+ *
+ * The last three are 0 for a refusal. For a circuit, inputs + outputs + work is the number of its
+ * lines: as many line bytes are to be lent to oracle_run_forwards and oracle_run_backwards, and as
+ * many choice bytes to oracle_undo.
+ */
+typedef struct {
+    uint64_t number;
+    uint64_t value;
+    uint64_t inputs;
+    uint64_t outputs;
+    uint64_t work;
+} oracle_head;
+
 /* Reads and checks a program file.
  *
- * Result: value is the number of nodes. Refusals: 1 to 6. The file is only read.
+ * Result: value is the number of nodes, inputs and outputs are the program's, work is 0. Refusals:
+ * 1 to 6. The file is only read.
  */
-oracle_answer oracle_read_program(const uint8_t *file, size_t file_length);
+oracle_head oracle_read_program(const uint8_t *file, size_t file_length);
 
 /* Evaluates one output of a program file on given input bits.
  *
@@ -72,14 +94,16 @@ oracle_answer oracle_compile(const uint8_t *file, size_t file_length, uint64_t g
 
 /* Reads and checks a circuit file.
  *
- * Result: value is the number of gates. Refusals: 1 to 4, 12. The file is only read.
+ * Result: value is the number of gates, inputs, outputs and work are the circuit's. Refusals: 1 to
+ * 4, 12. The file is only read.
  */
-oracle_answer oracle_read_circuit(const uint8_t *file, size_t file_length);
+oracle_head oracle_read_circuit(const uint8_t *file, size_t file_length);
 
 /* Runs a circuit file, the first gate first.
  *
- * lines   one byte, 0 or 1, for each line: inputs, then targets, then work lines. After a result
- *         they are the lines after the run. After a refusal they are as they were.
+ * lines   one byte, 0 or 1, for each line: inputs, then targets, then work lines. How many there
+ *         are is said by oracle_read_circuit. After a result they are the lines after the run.
+ *         After a refusal they are as they were.
  *
  * Result: value is 0. Refusals: 1 to 4, 12, 13. The file is only read.
  */

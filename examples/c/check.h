@@ -30,6 +30,15 @@ static void holds(bool test, const char *what)
     }
 }
 
+/* Prints a reader's answer, which is to have these numbers. */
+static void show_head(const char *what, oracle_head head, oracle_head wanted)
+{
+    show(what, (oracle_answer){head.number, head.value}, wanted.number, wanted.value);
+    holds(head.inputs == wanted.inputs, "the number of inputs");
+    holds(head.outputs == wanted.outputs, "the number of outputs");
+    holds(head.work == wanted.work, "the number of work lines");
+}
+
 /* Whether every byte is this one. */
 static inline bool filled(const uint8_t *area, size_t length, uint8_t byte)
 {

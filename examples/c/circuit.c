@@ -1,6 +1,7 @@
-/* Links liboracle.a as a loader would: reads a small circuit file, runs it on every input forwards
- * and backwards, undoes it except on its target, and shows refusals. It exits with 1 where an answer
- * is not the one that it expects. */
+/* Links liboracle.a as a loader would: reads a small circuit file, runs it on as many lines as its
+ * head says, then on every input forwards and backwards, undoes it except on its target, and shows
+ * refusals. It exits with 1 where an answer is not the one that it expects. */
+#include <stdlib.h>
 #include <string.h>
 
 #include "and.h"
@@ -22,6 +23,27 @@ enum { LENGTH = sizeof and_circuit, UNDONE = sizeof undone_circuit };
 
 static const uint8_t only_the_target[LINES] = {0, 0, 1, 0, 0};
 
+/* What a loader does that knows nothing of the file: it reads it, and lends just as many line bytes
+ * as the head says, here with every input at 1 and all other lines at 0. */
+static void show_loading(const uint8_t *file, size_t length)
+{
+    const oracle_head head = oracle_read_circuit(file, length);
+    show_head("gates", head, (oracle_head){.value = 5, .inputs = 2, .outputs = 1, .work = 2});
+    if (head.number != 0)
+        return;
+
+    const size_t count = head.inputs + head.outputs + head.work;
+    uint8_t *lines = calloc(count, 1);
+    if (lines == NULL)
+        exit(1);
+    memset(lines, 1, head.inputs);
+    show("run on the lines of its head", oracle_run_forwards(file, length, lines, count), 0, 0);
+    holds(lines[head.inputs] == 1, "the target after that run");
+    holds(filled(lines + head.inputs + head.outputs, head.work, 0), "its work lines");
+    show("on one line fewer", oracle_run_forwards(file, length, lines, count - 1), 13, 0);
+    free(lines);
+}
+
 static void show_runs(void)
 {
     run_from_all_inputs(and_circuit, LENGTH);
@@ -40,7 +62,8 @@ static void show_undo(void)
          oracle_undo(and_circuit, LENGTH, only_the_target, LINES, area, LENGTH), 0, UNDONE);
     holds(memcmp(area, undone_circuit, UNDONE) == 0, "the file written");
     holds(filled(area + UNDONE, LENGTH - UNDONE, 9), "the area behind the file written");
-    show("its gates", oracle_read_circuit(area, UNDONE), 0, 4);
+    show_head("its gates", oracle_read_circuit(area, UNDONE),
+              (oracle_head){.value = 4, .inputs = 2, .outputs = 1, .work = 2});
 }
 
 /* The first three gates build the AND and leave the work lines as they are. Undoing them except on
@@ -74,8 +97,9 @@ static void show_refusals(void)
     memcpy(damaged, and_circuit, LENGTH);
     damaged[46] = 4; /* both controls of gate 2 are line 4 */
 
-    show("empty file", oracle_read_circuit(NULL, 0), 1, 0);
-    show("equal controls", oracle_read_circuit(damaged, LENGTH), 12, 2);
+    show_head("empty file", oracle_read_circuit(NULL, 0), (oracle_head){.number = 1});
+    show_head("equal controls", oracle_read_circuit(damaged, LENGTH),
+              (oracle_head){.number = 12, .value = 2});
     show("undo of that",
          oracle_undo(damaged, LENGTH, only_the_target, LINES, area, LENGTH), 12, 2);
     holds(filled(area, LENGTH, 9), "the area after refusal 12");
@@ -97,7 +121,7 @@ static void show_refusals(void)
 
 int main(void)
 {
-    show("gates", oracle_read_circuit(and_circuit, LENGTH), 0, 5);
+    show_loading(and_circuit, LENGTH);
     show_runs();
     show_undo();
     show_cleaning();

@@ -20,12 +20,13 @@ static bool sizes_filled(const uint16_t sizes[SIZES])
 
 static void show_circuit(const uint8_t circuit[CIRCUIT])
 {
-    printf("lines %d %d %d\n", circuit[22], circuit[24], circuit[26]);
+    const oracle_head head = oracle_read_circuit(circuit, CIRCUIT);
+    printf("lines %d %d %d\n", (int)head.inputs, (int)head.outputs, (int)head.work);
     printf("first bytes:");
     for (size_t i = 0; i < 36; i++)
         printf(" %02x", circuit[i]);
     printf("\n");
-    show("gates", oracle_read_circuit(circuit, CIRCUIT), 0, 5);
+    show_head("gates", head, (oracle_head){.value = 5, .inputs = 2, .outputs = 1, .work = 2});
 }
 
 static void show_runs(const uint8_t circuit[CIRCUIT])

@@ -10,7 +10,8 @@ int main(void)
 {
     const size_t length = sizeof and_program;
 
-    show("nodes", oracle_read_program(and_program, length), 0, 3);
+    show_head("nodes", oracle_read_program(and_program, length),
+              (oracle_head){.value = 3, .inputs = 2, .outputs = 1});
 
     for (uint8_t a = 0; a < 2; a++) {
         for (uint8_t b = 0; b < 2; b++) {
@@ -27,14 +28,15 @@ int main(void)
     const uint8_t inputs[2] = {1, 1};
     uint8_t values[3] = {9, 9, 9};
     const uint8_t kept[3] = {9, 9, 9};
-    show("empty file", oracle_read_program(NULL, 0), 1, 0);
+    show_head("empty file", oracle_read_program(NULL, 0), (oracle_head){.number = 1});
     show("no output 1", oracle_evaluate(and_program, length, values, 3, inputs, 2, 1), 15, 0);
     holds(memcmp(values, kept, 3) == 0, "the value list after a refusal");
 
     uint8_t damaged[sizeof and_program];
     memcpy(damaged, and_program, length);
     damaged[50] = 2; /* the first operand of node 2 is node 2 itself */
-    show("AND of itself", oracle_read_program(damaged, length), 5, 2);
+    show_head("AND of itself", oracle_read_program(damaged, length),
+              (oracle_head){.number = 5, .value = 2});
 
     return all_as_expected ? 0 : 1;
 }

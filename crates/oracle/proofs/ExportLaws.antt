@@ -15,10 +15,10 @@ use Rattle.compile.specs.Demand.{Demand3}
 use Rattle.oracle.specs.declared.OracleAnswer.{OracleAnswer}
 use Rattle.oracle.specs.Exported.{exported, ExportedDemand3}
 
--- a number taken from a service's answer a, which is b, is the number taken from what the service read
-pub counted : {A B : Type 0} (g : A → B) (count : B → ℕ) (x : Answer A) {a b : Answer B} → a ≡ b → a ≡ mapAnswer g x
-    → exported (mapAnswer count b) ≡ exported (mapAnswer (λ v. count (g v)) x)
-counted g count x e r = ap (λ y. exported (mapAnswer count y)) (sym e ∙ r) ∙ ap exported (mapped-twice g count x)
+-- what is shown of a service's answer a, which is b, is what is shown of that which the service read
+pub answer-shown : {A B C D : Type 0} (show : Answer C → D) (g : A → B) (number : B → C) (x : Answer A) {a b : Answer B} → a ≡ b → a ≡ mapAnswer g x
+    → show (mapAnswer number b) ≡ show (mapAnswer (λ v. number (g v)) x)
+answer-shown show g number x e r = ap (λ y. show (mapAnswer number y)) (sym e ∙ r) ∙ ap show (mapped-twice g number x)
 
 -- the bytes of a file that was written, from the number of its gates
 abbrev pub fileBytes : CircuitHead → ℕ

@@ -20,22 +20,31 @@ ghost use mathlib.Core.Path.{_≡_};
 ghost use Prim.Native.Nat.{_≤_};
 ghost use lib.ListN.{length};
 ghost use Rattle.wire.specs.Answers.{result, refuse, mapAnswer};
-ghost use Rattle.circuit.specs.Circuits.{Circuit};
 ghost use Rattle.circuit.specs.Format.{circuitFile, areaAfter, fileLength};
 ghost use Rattle.circuit.specs.Reading.{readCircuit};
 ghost use Rattle.run.specs.RunCircuit.{runForwards, runBackwards, linesAfter, done, ran};
 ghost use Rattle.undo.specs.UndoCircuit.{undoFile};
-ghost use Rattle.program.specs.Programs.{Program};
 ghost use Rattle.program.specs.Reading.{readProgram};
 ghost use Rattle.evaluate.specs.Evaluating.{evaluateOf};
 ghost use Rattle.compile.specs.Compiling.{compileOf};
-ghost use Rattle.oracle.specs.Exported.{exported, ExportedDemand3};
+ghost use Rattle.oracle.specs.Exported.{exported, exportedHead, programHead, circuitHead, ExportedDemand3};
 
 // Number 0 and the value of a result, or the number and the place of a refusal.
 #[repr(C)]
 pub struct OracleAnswer {
     pub number: u64,
     pub value: u64,
+}
+
+// What a reader answers: the same, and the file's numbers of inputs, outputs and work lines. All
+// three are 0 for a refusal, and a program has no work lines.
+#[repr(C)]
+pub struct OracleHead {
+    pub number: u64,
+    pub value: u64,
+    pub inputs: u64,
+    pub outputs: u64,
+    pub work: u64,
 }
 
 // A refusal as its number and place.
@@ -45,6 +54,20 @@ fn refusal(why: Refusal) -> OracleAnswer
     OracleAnswer {
         number: why.number(),
         value: why.place(),
+    }
+}
+
+// A reader's refusal as its number and place, and no number of the file.
+fn refused_head(why: Refusal) -> OracleHead
+    ensures { λ r. ⌜ r ≡ exportedHead (refuse why) ⌝ }
+{
+    let answer = refusal(why);
+    OracleHead {
+        number: answer.number,
+        value: answer.value,
+        inputs: 0,
+        outputs: 0,
+        work: 0,
     }
 }
 
@@ -61,15 +84,18 @@ fn written(head: CircuitHead) -> OracleAnswer
 
 // Reads a program file; the value of a result is the number of nodes.
 #[no_mangle]
-pub extern "C" fn oracle_read_program(file: &[u8]) -> OracleAnswer
-    ensures { λ r. ⌜ r ≡ exported (mapAnswer (λ (p : Program). length (p .nodes)) (readProgram (now (file .entry)))) ⌝ }
+pub extern "C" fn oracle_read_program(file: &[u8]) -> OracleHead
+    ensures { λ r. ⌜ r ≡ exportedHead (mapAnswer programHead (readProgram (now (file .entry)))) ⌝ }
 {
     match read_program(file) {
-        ProgramRead::Good(head) => OracleAnswer {
+        ProgramRead::Good(program) => OracleHead {
             number: 0,
-            value: head.nodes as u64,
+            value: program.nodes as u64,
+            inputs: program.inputs as u64,
+            outputs: program.outputs as u64,
+            work: 0,
         },
-        ProgramRead::Refused(why) => refusal(why),
+        ProgramRead::Refused(why) => refused_head(why),
     }
 }
 
@@ -95,15 +121,18 @@ pub extern "C" fn oracle_evaluate(
 
 // Reads a circuit file; the value of a result is the number of gates.
 #[no_mangle]
-pub extern "C" fn oracle_read_circuit(file: &[u8]) -> OracleAnswer
-    ensures { λ r. ⌜ r ≡ exported (mapAnswer (λ (c : Circuit). length (c .gates)) (readCircuit (now (file .entry)))) ⌝ }
+pub extern "C" fn oracle_read_circuit(file: &[u8]) -> OracleHead
+    ensures { λ r. ⌜ r ≡ exportedHead (mapAnswer circuitHead (readCircuit (now (file .entry)))) ⌝ }
 {
     match read_circuit(file) {
-        CircuitRead::Good(head) => OracleAnswer {
+        CircuitRead::Good(circuit) => OracleHead {
             number: 0,
-            value: head.gates as u64,
+            value: circuit.gates as u64,
+            inputs: circuit.inputs as u64,
+            outputs: circuit.outputs as u64,
+            work: circuit.work as u64,
         },
-        CircuitRead::Refused(why) => refusal(why),
+        CircuitRead::Refused(why) => refused_head(why),
     }
 }
 

@@ -1,18 +1,19 @@
 //! Program files at every limit of the format, each with what reading it has to give. The answers
 //! are written out from the table of causes in 01 and come from neither side.
 
+use crate::compare::read::Head;
 use crate::layout::{Entry, Layout};
 use crate::program::{and, input, node, not, xor, Node, Program, ONE, ZERO};
 use crate::Outcome;
 
-/// A named file and its outcome: the number of nodes or gates, or a refusal's number and place.
+/// A named file and its outcome: its numbers, or a refusal's number and place.
 pub struct Shaped {
     /// What the file shows.
     pub name: String,
     /// The file.
     pub file: Vec<u8>,
     /// What reading it gives.
-    pub expected: Outcome<u64>,
+    pub expected: Outcome<Head>,
 }
 
 /// The whole case of 01: n = 2, nodes INPUT 0, INPUT 1, AND 0 1, output 2.
@@ -55,8 +56,11 @@ pub fn all() -> Vec<Shaped> {
     groups.into_iter().flatten().collect()
 }
 
-pub(crate) fn accepted(name: &str, file: Vec<u8>, count: u64) -> Shaped {
-    Shaped { name: name.to_string(), file, expected: Ok(count) }
+/// A file with its numbers of inputs, outputs and work lines, and of nodes or gates.
+pub(crate) fn accepted(name: &str, file: Vec<u8>, numbers: [usize; 4]) -> Shaped {
+    let [inputs, outputs, work, count] = numbers;
+    let head = Head { inputs, outputs, work, count };
+    Shaped { name: name.to_string(), file, expected: Ok(head) }
 }
 
 pub(crate) fn refused(name: &str, file: Vec<u8>, number: u64, place: u64) -> Shaped {
@@ -127,14 +131,14 @@ fn ones(count: usize) -> Program {
 
 fn accepted_programs() -> Vec<Shaped> {
     vec![
-        accepted("the whole case as bytes", WHOLE_CASE.to_vec(), 3),
-        accepted("the whole case from fields", whole_case().bytes(), 3),
-        accepted("NOR as AND of two NOTs", nor().bytes(), 5),
-        accepted("AND of three inputs", and_of_three().bytes(), 5),
-        accepted("AND of four inputs", and_of_four().bytes(), 7),
-        accepted("XOR of an input with itself", xor_with_itself().bytes(), 2),
-        accepted("output ZERO", output_zero().bytes(), 1),
-        accepted("the XOR chain", xor_chain().bytes(), 16),
+        accepted("the whole case as bytes", WHOLE_CASE.to_vec(), [2, 1, 0, 3]),
+        accepted("the whole case from fields", whole_case().bytes(), [2, 1, 0, 3]),
+        accepted("NOR as AND of two NOTs", nor().bytes(), [2, 1, 0, 5]),
+        accepted("AND of three inputs", and_of_three().bytes(), [3, 1, 0, 5]),
+        accepted("AND of four inputs", and_of_four().bytes(), [4, 1, 0, 7]),
+        accepted("XOR of an input with itself", xor_with_itself().bytes(), [1, 1, 0, 2]),
+        accepted("output ZERO", output_zero().bytes(), [0, 1, 0, 1]),
+        accepted("the XOR chain", xor_chain().bytes(), [0, 3, 0, 16]),
     ]
 }
 
@@ -345,19 +349,19 @@ fn head_and_node_lengths() -> Vec<Shaped> {
         refused("head of 0 bytes", resized(0, 0), 3, 0),
         refused("head of 2 bytes", resized(0, 2), 3, 0),
         refused("head of 3 bytes", resized(0, 3), 3, 0),
-        accepted("head of 4 bytes", resized(0, 4), 3),
+        accepted("head of 4 bytes", resized(0, 4), [2, 1, 0, 3]),
         refused("head of 5 bytes", resized(0, 5), 3, 0),
         refused("head of 6 bytes", resized(0, 6), 3, 0),
         refused("0 nodes", resized(1, 0), 3, 0),
         refused("node body of 1 byte", resized(1, 1), 3, 0),
         refused("node body of 5 bytes", resized(1, 5), 3, 0),
-        accepted("1 node", ones(1).bytes(), 1),
+        accepted("1 node", ones(1).bytes(), [0, 1, 0, 1]),
         refused("node body of 7 bytes", resized(1, 7), 3, 0),
         refused("node body one byte short", resized(1, 17), 3, 0),
         refused("node body one byte long", resized(1, 19), 3, 0),
-        accepted("4095 nodes", ones(4095).bytes(), 4095),
+        accepted("4095 nodes", ones(4095).bytes(), [0, 1, 0, 4095]),
         refused("4096 nodes less a byte", node_bytes(24575), 3, 0),
-        accepted("4096 nodes", ones(4096).bytes(), 4096),
+        accepted("4096 nodes", ones(4096).bytes(), [0, 1, 0, 4096]),
         refused("4096 nodes and a byte", node_bytes(24577), 3, 0),
         refused("4097 nodes", ones(4097).bytes(), 3, 0),
         refused("65536 nodes", ones(65536).bytes(), 3, 0),
@@ -375,7 +379,7 @@ fn output_lengths() -> Vec<Shaped> {
         refused("output body of 3 bytes", resized(2, 3), 3, 0),
         refused("output body of 4 bytes", resized(2, 4), 3, 0),
         refused("m 2, one output", with_outputs(2, 1), 3, 0),
-        accepted("m 2, two outputs", with_outputs(2, 2), 1),
+        accepted("m 2, two outputs", with_outputs(2, 2), [0, 2, 0, 1]),
         refused("m 2, three outputs", with_outputs(2, 3), 3, 0),
         refused("m 64, 63 outputs", with_outputs(64, 63), 3, 0),
         refused("m 64, 65 outputs", with_outputs(64, 65), 3, 0),
@@ -395,21 +399,21 @@ fn ranges() -> Vec<Shaped> {
     let n = |n: u16| Program::new(n, &[ONE], &[0]).bytes();
     let m = |m: u16| Program::new(0, &[ONE], &vec![0; usize::from(m)]).bytes();
     vec![
-        accepted("n 0", n(0), 1),
-        accepted("n 1", n(1), 1),
-        accepted("n 64", n(64), 1),
+        accepted("n 0", n(0), [0, 1, 0, 1]),
+        accepted("n 1", n(1), [1, 1, 0, 1]),
+        accepted("n 64", n(64), [64, 1, 0, 1]),
         refused("n 65", n(65), 4, 0),
         refused("n 256", n(256), 4, 0),
         refused("n 320, 64 in its low byte", n(320), 4, 0),
         refused("n 65535", n(65535), 4, 0),
         refused("m 0", m(0), 4, 0),
-        accepted("m 1", m(1), 1),
-        accepted("m 64", m(64), 1),
+        accepted("m 1", m(1), [0, 1, 0, 1]),
+        accepted("m 64", m(64), [0, 64, 0, 1]),
         refused("m 65", m(65), 4, 0),
         refused("m 256", m(256), 4, 0),
         refused("m 257, 1 in its low byte", m(257), 4, 0),
         refused("n 65 and m 0", Program::new(65, &[ONE], &[]).bytes(), 4, 0),
-        accepted("n 64 and m 64", Program::new(64, &[ONE], &[0; 64]).bytes(), 1),
+        accepted("n 64 and m 64", Program::new(64, &[ONE], &[0; 64]).bytes(), [64, 64, 0, 1]),
     ]
 }
 
@@ -432,12 +436,12 @@ fn at_4095(last: Node) -> Vec<u8> {
 
 fn kinds_and_zero_bytes() -> Vec<Shaped> {
     vec![
-        accepted("ZERO", at_3(ZERO), 5),
-        accepted("ONE", at_3(ONE), 5),
-        accepted("INPUT", at_3(input(0)), 5),
-        accepted("NOT", at_3(not(0)), 5),
-        accepted("XOR", at_3(xor(0, 1)), 5),
-        accepted("AND", at_3(and(0, 1)), 5),
+        accepted("ZERO", at_3(ZERO), [2, 1, 0, 5]),
+        accepted("ONE", at_3(ONE), [2, 1, 0, 5]),
+        accepted("INPUT", at_3(input(0)), [2, 1, 0, 5]),
+        accepted("NOT", at_3(not(0)), [2, 1, 0, 5]),
+        accepted("XOR", at_3(xor(0, 1)), [2, 1, 0, 5]),
+        accepted("AND", at_3(and(0, 1)), [2, 1, 0, 5]),
         refused("kind 6", at_3(node(6, 0, 0)), 5, 3),
         refused("kind 7", at_3(node(7, 0, 0)), 5, 3),
         refused("kind 128", at_3(node(128, 0, 0)), 5, 3),
@@ -472,52 +476,52 @@ fn unused_fields() -> Vec<Shaped> {
 
 fn operands_of_not_and_xor() -> Vec<Shaped> {
     vec![
-        accepted("NOT of the node before", at_3(not(2)), 5),
+        accepted("NOT of the node before", at_3(not(2)), [2, 1, 0, 5]),
         refused("NOT of itself", at_3(not(3)), 5, 3),
         refused("NOT of the node after", at_3(not(4)), 5, 3),
         refused("NOT of no node", at_3(not(5)), 5, 3),
         refused("NOT of 65535", at_3(not(65535)), 5, 3),
         refused("NOT of 256", at_3(not(256)), 5, 3),
-        accepted("XOR, a the node before", at_3(xor(2, 0)), 5),
+        accepted("XOR, a the node before", at_3(xor(2, 0)), [2, 1, 0, 5]),
         refused("XOR, a itself", at_3(xor(3, 0)), 5, 3),
         refused("XOR, a the node after", at_3(xor(4, 0)), 5, 3),
         refused("XOR, a 65535", at_3(xor(65535, 0)), 5, 3),
         refused("XOR, a 256", at_3(xor(256, 0)), 5, 3),
-        accepted("XOR, b the node before", at_3(xor(0, 2)), 5),
+        accepted("XOR, b the node before", at_3(xor(0, 2)), [2, 1, 0, 5]),
         refused("XOR, b itself", at_3(xor(0, 3)), 5, 3),
         refused("XOR, b the node after", at_3(xor(0, 4)), 5, 3),
         refused("XOR, b 65535", at_3(xor(0, 65535)), 5, 3),
         refused("XOR, b 256", at_3(xor(0, 256)), 5, 3),
-        accepted("XOR of a node with itself", at_3(xor(2, 2)), 5),
+        accepted("XOR of a node with itself", at_3(xor(2, 2)), [2, 1, 0, 5]),
         refused("XOR, both itself", at_3(xor(3, 3)), 5, 3),
     ]
 }
 
 fn operands_of_and() -> Vec<Shaped> {
     vec![
-        accepted("AND, a the node before", at_3(and(2, 0)), 5),
+        accepted("AND, a the node before", at_3(and(2, 0)), [2, 1, 0, 5]),
         refused("AND, a itself", at_3(and(3, 0)), 5, 3),
         refused("AND, a the node after", at_3(and(4, 0)), 5, 3),
         refused("AND, a 65535", at_3(and(65535, 0)), 5, 3),
         refused("AND, a 256", at_3(and(256, 0)), 5, 3),
-        accepted("AND, b the node before", at_3(and(0, 2)), 5),
+        accepted("AND, b the node before", at_3(and(0, 2)), [2, 1, 0, 5]),
         refused("AND, b itself", at_3(and(0, 3)), 5, 3),
         refused("AND, b the node after", at_3(and(0, 4)), 5, 3),
         refused("AND, b 65535", at_3(and(0, 65535)), 5, 3),
         refused("AND, b 256", at_3(and(0, 256)), 5, 3),
-        accepted("AND of a node with itself", at_3(and(2, 2)), 5),
+        accepted("AND of a node with itself", at_3(and(2, 2)), [2, 1, 0, 5]),
         refused("AND, both itself", at_3(and(3, 3)), 5, 3),
     ]
 }
 
 fn first_and_last_nodes() -> Vec<Shaped> {
     vec![
-        accepted("INPUT as node 0", at_0(input(1)), 1),
+        accepted("INPUT as node 0", at_0(input(1)), [2, 1, 0, 1]),
         refused("NOT as node 0", at_0(not(0)), 5, 0),
         refused("XOR as node 0", at_0(xor(0, 0)), 5, 0),
         refused("AND as node 0", at_0(and(0, 0)), 5, 0),
         refused("kind 6 as node 0", at_0(BAD), 5, 0),
-        accepted("node 4095, XOR of 4094", at_4095(xor(4094, 4094)), 4096),
+        accepted("node 4095, XOR of 4094", at_4095(xor(4094, 4094)), [64, 1, 0, 4096]),
         refused("node 4095, NOT of itself", at_4095(not(4095)), 5, 4095),
         refused("node 4095, XOR, a itself", at_4095(xor(4095, 0)), 5, 4095),
         refused("node 4095, AND, b itself", at_4095(and(0, 4095)), 5, 4095),
@@ -529,22 +533,22 @@ fn first_and_last_nodes() -> Vec<Shaped> {
 fn input_numbers() -> Vec<Shaped> {
     let program = |n: u16, nodes: &[Node]| Program::new(n, nodes, &[0]).bytes();
     vec![
-        accepted("INPUT n - 1", at_3(input(1)), 5),
+        accepted("INPUT n - 1", at_3(input(1)), [2, 1, 0, 5]),
         refused("INPUT n", at_3(input(2)), 5, 3),
         refused("INPUT n + 1", at_3(input(3)), 5, 3),
         refused("INPUT 256", at_3(input(256)), 5, 3),
         refused("INPUT 65535", at_3(input(65535)), 5, 3),
         refused("INPUT 0, n 0", program(0, &[ONE, input(0)]), 5, 1),
-        accepted("INPUT 0, n 1", program(1, &[input(0)]), 1),
+        accepted("INPUT 0, n 1", program(1, &[input(0)]), [1, 1, 0, 1]),
         refused("INPUT 1, n 1", program(1, &[input(1)]), 5, 0),
-        accepted("INPUT 63, n 64", at_4095(input(63)), 4096),
+        accepted("INPUT 63, n 64", at_4095(input(63)), [64, 1, 0, 4096]),
         refused("INPUT 64, n 64", at_4095(input(64)), 5, 4095),
         accepted(
             "an INPUT may be at an index up to its number",
             program(64, &[input(63), input(1), input(2)]),
-            3,
+            [64, 1, 0, 3],
         ),
-        accepted("an INPUT twice", program(1, &[input(0), input(0)]), 2),
+        accepted("an INPUT twice", program(1, &[input(0), input(0)]), [1, 1, 0, 2]),
     ]
 }
 
@@ -577,24 +581,24 @@ fn outputs() -> Vec<Shaped> {
         Program::new(0, &[ONE], &outputs).bytes()
     };
     vec![
-        accepted("output the first node", program(&[0]), 3),
-        accepted("output the last node", program(&[2]), 3),
+        accepted("output the first node", program(&[0]), [1, 1, 0, 3]),
+        accepted("output the last node", program(&[2]), [1, 1, 0, 3]),
         refused("output the node count", program(&[3]), 6, 0),
         refused("output the node count and one", program(&[4]), 6, 0),
         refused("output 256", program(&[256]), 6, 0),
         refused("output 32768", program(&[32768]), 6, 0),
         refused("output 65535", program(&[65535]), 6, 0),
-        accepted("the same output twice", program(&[2, 2]), 3),
-        accepted("outputs out of order", program(&[2, 0, 1]), 3),
+        accepted("the same output twice", program(&[2, 2]), [1, 2, 0, 3]),
+        accepted("outputs out of order", program(&[2, 0, 1]), [1, 3, 0, 3]),
         refused("output 1 bad", program(&[0, 3, 0]), 6, 1),
         refused("output 2 bad", program(&[0, 0, 3]), 6, 2),
         refused("outputs 0 and 1 bad", program(&[3, 3, 0]), 6, 0),
         refused("outputs 1 and 2 bad", program(&[0, 65535, 3]), 6, 1),
         refused("outputs 0 and 2 bad", program(&[3, 0, 65535]), 6, 0),
         refused("all outputs bad", program(&[3; 64]), 6, 0),
-        accepted("output 63, the last node", last_of_64(0), 1),
+        accepted("output 63, the last node", last_of_64(0), [0, 64, 0, 1]),
         refused("output 63, the node count", last_of_64(1), 6, 63),
-        accepted("output 4095 of 4096 nodes", full(4095), 4096),
+        accepted("output 4095 of 4096 nodes", full(4095), [0, 1, 0, 4096]),
         refused("output 4096 of 4096 nodes", full(4096), 6, 0),
         refused("output 4097 of 4096 nodes", full(4097), 6, 0),
     ]

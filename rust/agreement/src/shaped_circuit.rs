@@ -107,21 +107,25 @@ fn accepted_circuits() -> Vec<Shaped> {
     // What the compiler never writes: inputs as targets, outputs as controls.
     let free = Circuit::new(2, 1, 1, &[cnot(2, 0), toffoli(3, 2, 1), not(1), cnot(0, 3)]);
     vec![
-        accepted("the whole case as bytes", WHOLE_CASE.to_vec(), 5),
-        accepted("the whole case from fields", whole_case().bytes(), 5),
-        accepted("NOR", nor().bytes(), 9),
-        accepted("AND of three inputs", and_of_three().bytes(), 9),
-        accepted("AND of four inputs, built", and_of_four_built().bytes(), 7),
-        accepted("XOR of an input with itself", itself.bytes(), 2),
-        accepted("output ZERO", Circuit::new(0, 1, 0, &[]).bytes(), 0),
-        accepted("any line as target", free.bytes(), 4),
-        accepted("one line, one NOT", nots(1).bytes(), 1),
-        accepted("two lines", chain(1, 1, 0).bytes(), 1),
-        accepted("every place of 3 lines", every_place(1, 1, 1).bytes(), 18),
-        accepted("every place of 5 lines", every_place(0, 5, 0).bytes(), 18),
-        accepted("every place of 257 lines", every_place(0, 1, 256).bytes(), 18),
-        accepted("every place of 1152 lines", every_place(64, 64, 1024).bytes(), 18),
-        accepted("a chain of 1152 lines", chain(64, 64, 1024).bytes(), 1151),
+        accepted("the whole case as bytes", WHOLE_CASE.to_vec(), [2, 1, 2, 5]),
+        accepted("the whole case from fields", whole_case().bytes(), [2, 1, 2, 5]),
+        accepted("NOR", nor().bytes(), [2, 1, 2, 9]),
+        accepted("AND of three inputs", and_of_three().bytes(), [3, 1, 4, 9]),
+        accepted("AND of four inputs, built", and_of_four_built().bytes(), [4, 1, 6, 7]),
+        accepted("XOR of an input with itself", itself.bytes(), [1, 1, 0, 2]),
+        accepted("output ZERO", Circuit::new(0, 1, 0, &[]).bytes(), [0, 1, 0, 0]),
+        accepted("any line as target", free.bytes(), [2, 1, 1, 4]),
+        accepted("one line, one NOT", nots(1).bytes(), [0, 1, 0, 1]),
+        accepted("two lines", chain(1, 1, 0).bytes(), [1, 1, 0, 1]),
+        accepted("every place of 3 lines", every_place(1, 1, 1).bytes(), [1, 1, 1, 18]),
+        accepted("every place of 5 lines", every_place(0, 5, 0).bytes(), [0, 5, 0, 18]),
+        accepted("every place of 257 lines", every_place(0, 1, 256).bytes(), [0, 1, 256, 18]),
+        accepted(
+            "every place of 1152 lines",
+            every_place(64, 64, 1024).bytes(),
+            [64, 64, 1024, 18],
+        ),
+        accepted("a chain of 1152 lines", chain(64, 64, 1024).bytes(), [64, 64, 1024, 1151]),
     ]
 }
 
@@ -278,17 +282,17 @@ fn lengths() -> Vec<Shaped> {
         refused("head of 2 bytes", resized(0, 2), 3, 0),
         refused("head of 4 bytes", resized(0, 4), 3, 0),
         refused("head of 5 bytes", resized(0, 5), 3, 0),
-        accepted("head of 6 bytes", resized(0, 6), 5),
+        accepted("head of 6 bytes", resized(0, 6), [2, 1, 2, 5]),
         refused("head of 7 bytes", resized(0, 7), 3, 0),
         refused("head of 8 bytes", resized(0, 8), 3, 0),
         refused("head of 14 bytes", resized(0, 14), 3, 0),
-        accepted("gate body of 0 bytes", resized(1, 0), 0),
+        accepted("gate body of 0 bytes", resized(1, 0), [2, 1, 2, 0]),
         refused("gate body of 1 byte", resized(1, 1), 3, 0),
         refused("gate body of 2 bytes", resized(1, 2), 3, 0),
         refused("gate body of 4 bytes", resized(1, 4), 3, 0),
         refused("gate body of 6 bytes", resized(1, 6), 3, 0),
         refused("gate body of 7 bytes", resized(1, 7), 3, 0),
-        accepted("gate body of 8 bytes", resized(1, 8), 1),
+        accepted("gate body of 8 bytes", resized(1, 8), [2, 1, 2, 1]),
         refused("gate body of 9 bytes", resized(1, 9), 3, 0),
         refused("gate body of 12 bytes", resized(1, 12), 3, 0),
         refused("gate body one byte short", resized(1, 39), 3, 0),
@@ -299,12 +303,12 @@ fn lengths() -> Vec<Shaped> {
 fn gate_counts() -> Vec<Shaped> {
     let gate_bytes = |length: usize| nots(8000).layout().resized(1, length).bytes();
     vec![
-        accepted("0 gates", nots(0).bytes(), 0),
-        accepted("1 gate", nots(1).bytes(), 1),
-        accepted("256 gates", nots(256).bytes(), 256),
-        accepted("7999 gates", nots(7999).bytes(), 7999),
+        accepted("0 gates", nots(0).bytes(), [0, 1, 0, 0]),
+        accepted("1 gate", nots(1).bytes(), [0, 1, 0, 1]),
+        accepted("256 gates", nots(256).bytes(), [0, 1, 0, 256]),
+        accepted("7999 gates", nots(7999).bytes(), [0, 1, 0, 7999]),
         refused("8000 gates less a byte", gate_bytes(63999), 3, 0),
-        accepted("8000 gates", nots(8000).bytes(), 8000),
+        accepted("8000 gates", nots(8000).bytes(), [0, 1, 0, 8000]),
         refused("8000 gates and a byte", gate_bytes(64001), 3, 0),
         refused("8001 gates", nots(8001).bytes(), 3, 0),
         refused("8192 gates, 0 bytes in 16 bits", nots(8192).bytes(), 3, 0),
@@ -317,29 +321,29 @@ fn gate_counts() -> Vec<Shaped> {
 fn ranges() -> Vec<Shaped> {
     let head = |n: u16, m: u16, w: u16| Circuit::new(n, m, w, &[not(0)]).bytes();
     vec![
-        accepted("n 0", head(0, 1, 0), 1),
-        accepted("n 1", head(1, 1, 0), 1),
-        accepted("n 64", head(64, 1, 0), 1),
+        accepted("n 0", head(0, 1, 0), [0, 1, 0, 1]),
+        accepted("n 1", head(1, 1, 0), [1, 1, 0, 1]),
+        accepted("n 64", head(64, 1, 0), [64, 1, 0, 1]),
         refused("n 65", head(65, 1, 0), 4, 0),
         refused("n 256", head(256, 1, 0), 4, 0),
         refused("n 320, 64 in its low byte", head(320, 1, 0), 4, 0),
         refused("n 65535", head(65535, 1, 0), 4, 0),
         refused("m 0", head(2, 0, 2), 4, 0),
-        accepted("m 1", head(2, 1, 2), 1),
-        accepted("m 64", head(2, 64, 2), 1),
+        accepted("m 1", head(2, 1, 2), [2, 1, 2, 1]),
+        accepted("m 64", head(2, 64, 2), [2, 64, 2, 1]),
         refused("m 65", head(2, 65, 2), 4, 0),
         refused("m 256", head(2, 256, 2), 4, 0),
         refused("m 257, 1 in its low byte", head(2, 257, 2), 4, 0),
         refused("m 65535", head(2, 65535, 2), 4, 0),
-        accepted("w 0", head(2, 1, 0), 1),
-        accepted("w 1", head(2, 1, 1), 1),
-        accepted("w 1023", head(2, 1, 1023), 1),
-        accepted("w 1024", head(2, 1, 1024), 1),
+        accepted("w 0", head(2, 1, 0), [2, 1, 0, 1]),
+        accepted("w 1", head(2, 1, 1), [2, 1, 1, 1]),
+        accepted("w 1023", head(2, 1, 1023), [2, 1, 1023, 1]),
+        accepted("w 1024", head(2, 1, 1024), [2, 1, 1024, 1]),
         refused("w 1025", head(2, 1, 1025), 4, 0),
         refused("w 1280", head(2, 1, 1280), 4, 0),
         refused("w 2048", head(2, 1, 2048), 4, 0),
         refused("w 65535", head(2, 1, 65535), 4, 0),
-        accepted("n 64, m 64, w 1024", head(64, 64, 1024), 1),
+        accepted("n 64, m 64, w 1024", head(64, 64, 1024), [64, 64, 1024, 1]),
         refused("n 65, m 0, w 1025", head(65, 0, 1025), 4, 0),
         refused("n 65, m 1, w 1024", head(65, 1, 1024), 4, 0),
     ]
@@ -352,9 +356,9 @@ fn at_2(third: Gate) -> Vec<u8> {
 
 fn kinds() -> Vec<Shaped> {
     vec![
-        accepted("NOT", at_2(not(2)), 4),
-        accepted("CNOT", at_2(cnot(1, 2)), 4),
-        accepted("Toffoli", at_2(toffoli(0, 1, 2)), 4),
+        accepted("NOT", at_2(not(2)), [2, 1, 2, 4]),
+        accepted("CNOT", at_2(cnot(1, 2)), [2, 1, 2, 4]),
+        accepted("Toffoli", at_2(toffoli(0, 1, 2)), [2, 1, 2, 4]),
         refused("kind 0, NOT's lines", at_2(gate(0, 0, 0, 2)), 12, 2),
         refused("kind 0, CNOT's lines", at_2(gate(0, 1, 0, 2)), 12, 2),
         refused("kind 0, Toffoli's lines", at_2(gate(0, 0, 1, 2)), 12, 2),
@@ -391,9 +395,9 @@ fn unused_controls() -> Vec<Shaped> {
         refused("CNOT, second control 256", at_2(gate(2, 1, 256, 2)), 12, 2),
         refused("CNOT, second control its first", at_2(gate(2, 1, 1, 2)), 12, 2),
         // An unused control is no line, so its 0 is not equal to line 0.
-        accepted("NOT of line 0", at_2(not(0)), 4),
-        accepted("CNOT, control 0", at_2(cnot(0, 1)), 4),
-        accepted("CNOT, target 0", at_2(cnot(1, 0)), 4),
+        accepted("NOT of line 0", at_2(not(0)), [2, 1, 2, 4]),
+        accepted("CNOT, control 0", at_2(cnot(0, 1)), [2, 1, 2, 4]),
+        accepted("CNOT, target 0", at_2(cnot(1, 0)), [2, 1, 2, 4]),
         // Read as CNOT 0 1, the lines left over would be accepted.
         refused("CNOT, first control zero, second not", at_2(gate(2, 0, 3, 1)), 12, 2),
     ]
@@ -411,7 +415,7 @@ fn line_limits() -> Vec<Shaped> {
     ];
     let mut files = Vec::new();
     for (name, place) in places {
-        files.push(accepted(&format!("{name} 4 of 5 lines"), at_2(place(4)), 4));
+        files.push(accepted(&format!("{name} 4 of 5 lines"), at_2(place(4)), [2, 1, 2, 4]));
         for line in [5, 6, 256, 258, 32770, 65535] {
             files.push(refused(&format!("{name} {line} of 5 lines"), at_2(place(line)), 12, 2));
         }
@@ -426,7 +430,8 @@ fn line_counts() -> Vec<Shaped> {
         let lines = n + m + w;
         let with = |gate: Gate| Circuit::new(n, m, w, &[not(0), gate]).bytes();
         let name = |line: u16| format!("NOT {line} with n {n}, m {m}, w {w}");
-        files.push(accepted(&name(lines - 1), with(not(lines - 1)), 2));
+        let numbers = [n, m, w, 2].map(usize::from);
+        files.push(accepted(&name(lines - 1), with(not(lines - 1)), numbers));
         files.push(refused(&name(lines), with(not(lines)), 12, 1));
         let control = format!("CNOT {lines} 0 with n {n}, m {m}, w {w}");
         files.push(refused(&control, with(cnot(lines, 0)), 12, 1));
@@ -447,9 +452,9 @@ fn equal_lines() -> Vec<Shaped> {
         refused("Toffoli, second control its target 0", at_2(toffoli(1, 0, 0)), 12, 2),
         refused("Toffoli, all equal", at_2(toffoli(3, 3, 3)), 12, 2),
         refused("Toffoli, equal and too high", at_2(toffoli(5, 5, 2)), 12, 2),
-        accepted("Toffoli, controls falling", at_2(toffoli(4, 3, 0)), 4),
-        accepted("Toffoli, controls rising", at_2(toffoli(3, 4, 0)), 4),
-        accepted("two equal gates", at_2(cnot(4, 0)), 4),
+        accepted("Toffoli, controls falling", at_2(toffoli(4, 3, 0)), [2, 1, 2, 4]),
+        accepted("Toffoli, controls rising", at_2(toffoli(3, 4, 0)), [2, 1, 2, 4]),
+        accepted("two equal gates", at_2(cnot(4, 0)), [2, 1, 2, 4]),
     ]
 }
 

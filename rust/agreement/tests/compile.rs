@@ -425,11 +425,11 @@ fn shaped_files_accepted_by_the_reader() {
     let mut random = Random::new(0x7368_6170);
     let mut tally = Tally::new("compile, shaped files");
     for shaped in shaped::all() {
-        let Ok(nodes) = shaped.expected else {
+        let Ok(head) = shaped.expected else {
             continue;
         };
         let (work, needed) = needs(&shaped.file).unwrap_or((0, NO_GATES));
-        let nodes = nodes as usize;
+        let nodes = head.count;
         for grant in [work, work.saturating_sub(1), 1_024, 1_025, u64::MAX] {
             for entries in [nodes, nodes + 1, nodes - 1] {
                 for length in [needed, needed + 1, needed - 1, 0] {

@@ -1,6 +1,7 @@
 //! The construction: the model's circuits as files that the archive reads and runs, held to what
 //! the archive's evaluation answers.
 
+use agreement::compare::read::{head_of, CIRCUIT};
 use agreement::compare::run::after as run;
 use agreement::drawn::{self, read, starts};
 use agreement::lent::lent;
@@ -66,8 +67,7 @@ struct Run {
 /// The same of one j, whose shares are the gates of this circuit.
 fn holds_after(seen: &mut Seen, circuit: &Circuit, j: usize, runs: &[Run]) {
     let file = circuit::write(circuit);
-    let gate_count = circuit.gates.len() as u64;
-    assert_eq!(oracle::read_circuit(&file), Ok(gate_count), "{}", hex(&file));
+    assert_eq!(CIRCUIT.archive(&file), Ok(head_of(circuit)), "{}", hex(&file));
     let first_work_line = circuit.inputs + circuit.outputs;
     for Run { start, values } in runs {
         let after = run(&file, start);
@@ -283,7 +283,8 @@ fn the_worked_case() {
     }
     assert_eq!(file.len(), written.len(), "the proved code, then the model");
 
-    assert_eq!(oracle::read_circuit(&file), Ok(13));
+    let head = oracle::CircuitHead { inputs: 4, outputs: 1, work: 6, gates: 13 };
+    assert_eq!(oracle::read_circuit(&file), Ok(head));
     let mut from_zero = 0;
     for state in 0..1 << 11 {
         let start: Vec<u8> = (0..11).map(|line| (state >> line & 1) as u8).collect();

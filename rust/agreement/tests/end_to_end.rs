@@ -71,7 +71,10 @@ fn compiled(random: &mut Random, program: Program) -> Compiled {
         area
     });
     let circuit = model::circuit::read(&file).expect("what was compiled reads back");
-    assert_eq!(oracle::read_circuit(&file), Ok(shares[shares.len() - 1] as u64));
+    let gates = shares[shares.len() - 1];
+    let (inputs, outputs) = (program.inputs.into(), program.outputs.len());
+    let head = oracle::CircuitHead { inputs, outputs, work, gates };
+    assert_eq!(oracle::read_circuit(&file), Ok(head));
     let compiled = Compiled { program, file, circuit, shares };
     assert_eq!(compiled.file.len(), needed, "{}", compiled.describe());
     assert_eq!(compiled.circuit.work, work, "{}", compiled.describe());

@@ -222,16 +222,15 @@ fn shaped_files_refused_by_the_reader() {
 fn shaped_files_accepted_by_the_reader() {
     let mut tally = Tally::new("evaluate, shaped files");
     for shaped in shaped::all() {
-        let Ok(nodes) = shaped.expected else {
+        let Ok(head) = shaped.expected else {
             continue;
         };
-        let program = model::program::read(&shaped.file).expect(&shaped.name);
-        for output in [0, program.outputs.len() as u64 - 1] {
+        for output in [0, head.outputs as u64 - 1] {
             for bit in [0, 1] {
                 let case = Case {
                     file: shaped.file.clone(),
-                    values: vec![9; nodes as usize + 1],
-                    inputs: vec![bit; program.inputs],
+                    values: vec![9; head.count + 1],
+                    inputs: vec![bit; head.inputs],
                     output,
                 };
                 let outcome = compare(&case);

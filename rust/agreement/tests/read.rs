@@ -1,7 +1,7 @@
 //! read_program and read_circuit: the archive beside the model.
 
 use agreement::circuit::{self, Circuit, Gate};
-use agreement::compare::read::{Reader, CIRCUIT, PROGRAM};
+use agreement::compare::read::{head_of, Reader, CIRCUIT, PROGRAM};
 use agreement::damage::each_byte_changed;
 use agreement::random::Random;
 use agreement::shaped::Shaped;
@@ -109,6 +109,21 @@ fn random_circuits_read_and_written() {
         let fields = fields_read(&circuit);
         assert!(model::circuit::read(&file) == Ok(fields.clone()), "read: {}", hex(&file));
         assert!(model::circuit::write(&fields) == file, "written: {}", hex(&file));
-        assert_eq!(CIRCUIT.archive(&file), Ok(circuit.gates.len() as u64), "{}", hex(&file));
+        assert_eq!(CIRCUIT.archive(&file), Ok(head_of(&fields)), "{}", hex(&file));
+    }
+}
+
+/// A loader lends as many line bytes as the head says: no byte more and no byte fewer is right.
+#[test]
+fn the_head_says_how_many_lines_to_lend() {
+    let mut random = Random::new(0x6865_6164);
+    let wrong = oracle::Refusal { number: 13, place: 0 };
+    for _ in 0..1_000 {
+        let file = circuit::valid(&mut random).bytes();
+        let run = |lines: usize| oracle::run_forwards(&file, &mut vec![0; lines]);
+        let lines = oracle::read_circuit(&file).expect("a good file").lines();
+        assert_eq!(run(lines), Ok(()), "{lines} lines, {}", hex(&file));
+        assert_eq!(run(lines - 1), Err(wrong), "{lines} lines less one, {}", hex(&file));
+        assert_eq!(run(lines + 1), Err(wrong), "{lines} lines and one, {}", hex(&file));
     }
 }

@@ -5,21 +5,23 @@ use std::fmt::Debug;
 use agreement::compare::{compile, evaluate, run, undo};
 use agreement::fuzz::Fuzz;
 use agreement::random::Random;
+use oracle::{CircuitHead, ProgramHead};
 
 use crate::idiomatic::{self, Refused};
 
-type Read = fn(&[u8]) -> Result<u64, Refused>;
+type ReadProgram = fn(&[u8]) -> Result<ProgramHead, Refused>;
 type Evaluate = fn(&[u8], &mut [u8], &[u8], u64) -> Result<bool, Refused>;
 type Compile = fn(&[u8], u64, &mut [u16], &mut [u8]) -> Result<usize, Refused>;
+type ReadCircuit = fn(&[u8]) -> Result<CircuitHead, Refused>;
 type Run = fn(&[u8], &mut [u8]) -> Result<(), Refused>;
 type Undo = fn(&[u8], &[u8], &mut [u8]) -> Result<usize, Refused>;
 
 /// The services of one side.
 pub struct Side {
-    pub read_program: Read,
+    pub read_program: ReadProgram,
     pub evaluate: Evaluate,
     pub compile: Compile,
-    pub read_circuit: Read,
+    pub read_circuit: ReadCircuit,
     pub run_forwards: Run,
     pub run_backwards: Run,
     pub undo: Undo,

@@ -7,6 +7,8 @@
 use std::error::Error;
 use std::{env, fs, process};
 
+use oracle::CircuitHead;
+
 /// Enough for every program and every circuit.
 const MOST_NODES: usize = 4_096;
 const MOST_BYTES: usize = 64_028;
@@ -26,11 +28,11 @@ fn main() {
 
 fn run(path: &str, bits: &str) -> Result<(), Box<dyn Error>> {
     let circuit = compiled(&fs::read(path)?)?;
-    let groups = head(&circuit);
-    let mut lines = start(bits, groups.iter().sum())?;
-    println!("before {}", shown(&lines, groups));
+    let head = oracle::read_circuit(&circuit)?;
+    let mut lines = start(bits, head.lines())?;
+    println!("before {}", shown(&lines, head));
     oracle::run_forwards(&circuit, &mut lines)?;
-    println!("after  {}", shown(&lines, groups));
+    println!("after  {}", shown(&lines, head));
     Ok(())
 }
 
@@ -39,11 +41,6 @@ fn compiled(program: &[u8]) -> Result<Vec<u8>, oracle::Refusal> {
     let length = oracle::compile(program, MOST_WORK_LINES, &mut sizes, &mut area)?;
     area.truncate(length);
     Ok(area)
-}
-
-/// The numbers of inputs, targets and work lines, which are the bytes from 22 on.
-fn head(circuit: &[u8]) -> [usize; 3] {
-    [22, 24, 26].map(|at| usize::from(u16::from_le_bytes([circuit[at], circuit[at + 1]])))
 }
 
 /// A byte for each digit, then zeros up to the number of lines.
@@ -57,9 +54,9 @@ fn start(bits: &str, count: usize) -> Result<Vec<u8>, String> {
 }
 
 /// The digits of each group of lines, parted by a blank.
-fn shown(lines: &[u8], [inputs, targets, _]: [usize; 3]) -> String {
+fn shown(lines: &[u8], head: CircuitHead) -> String {
     let digits = |lines: &[u8]| lines.iter().map(u8::to_string).collect::<String>();
-    let (inputs, rest) = lines.split_at(inputs);
-    let (targets, work) = rest.split_at(targets);
+    let (inputs, rest) = lines.split_at(head.inputs);
+    let (targets, work) = rest.split_at(head.outputs);
     [inputs, targets, work].map(digits).join(" ")
 }

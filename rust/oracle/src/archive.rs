@@ -3,8 +3,8 @@
 
 #![allow(unsafe_code)]
 
-/// What every function of the archive returns: the number 0 and a result's value, or a refusal's
-/// number and place.
+/// What every function of the archive but the readers returns: the number 0 and a result's value,
+/// or a refusal's number and place.
 #[derive(Debug, PartialEq, Eq)]
 #[repr(C)]
 pub struct Answer {
@@ -12,11 +12,30 @@ pub struct Answer {
     pub value: u64,
 }
 
+/// What the two readers return: the same, and the numbers of inputs, outputs and work lines. All
+/// three are 0 for a refusal, and `work` is 0 for a program.
+#[derive(Debug, PartialEq, Eq)]
+#[repr(C)]
+pub struct Head {
+    pub number: u64,
+    pub value: u64,
+    pub inputs: u64,
+    pub outputs: u64,
+    pub work: u64,
+}
+
+impl Head {
+    /// The number and the value.
+    pub fn answer(&self) -> Answer {
+        Answer { number: self.number, value: self.value }
+    }
+}
+
 mod c {
-    use super::Answer;
+    use super::{Answer, Head};
 
     extern "C" {
-        pub fn oracle_read_program(file: *const u8, file_len: usize) -> Answer;
+        pub fn oracle_read_program(file: *const u8, file_len: usize) -> Head;
 
         pub fn oracle_evaluate(
             file: *const u8,
@@ -38,7 +57,7 @@ mod c {
             area_len: usize,
         ) -> Answer;
 
-        pub fn oracle_read_circuit(file: *const u8, file_len: usize) -> Answer;
+        pub fn oracle_read_circuit(file: *const u8, file_len: usize) -> Head;
 
         pub fn oracle_run_forwards(
             file: *const u8,
@@ -69,7 +88,7 @@ mod c {
 // the call returns, so they name valid memory, writable where the slice is `&mut`, and no writable
 // area overlaps another. The archive accepts any content and any length, and keeps no pointer.
 
-pub fn read_program(file: &[u8]) -> Answer {
+pub fn read_program(file: &[u8]) -> Head {
     // SAFETY: see above.
     unsafe { c::oracle_read_program(file.as_ptr(), file.len()) }
 }
@@ -104,7 +123,7 @@ pub fn compile(file: &[u8], grant: u64, sizes: &mut [u16], area: &mut [u8]) -> A
     }
 }
 
-pub fn read_circuit(file: &[u8]) -> Answer {
+pub fn read_circuit(file: &[u8]) -> Head {
     // SAFETY: see above.
     unsafe { c::oracle_read_circuit(file.as_ptr(), file.len()) }
 }
@@ -153,10 +172,30 @@ mod tests {
         Answer { number, value }
     }
 
+    /// The file with one byte changed.
+    fn changed<const N: usize>(mut file: [u8; N], at: usize, byte: u8) -> [u8; N] {
+        file[at] = byte;
+        file
+    }
+
+    /// A reader's refusal, which has no number of the file.
+    fn refused(number: u64, place: u64) -> Head {
+        Head { number, value: place, inputs: 0, outputs: 0, work: 0 }
+    }
+
+    // The wrapper drops the numbers of a refusal and the work lines of a program, so only here can
+    // others than 0 be seen.
     #[test]
-    fn the_answer_to_a_program_is_its_number_of_nodes() {
-        assert_eq!(read_program(&AND), answer(0, 3));
-        assert_eq!(read_program(&[]), answer(1, 0));
+    fn the_answer_to_a_program_is_its_numbers() {
+        let head = Head { number: 0, value: 3, inputs: 2, outputs: 1, work: 0 };
+        assert_eq!(read_program(&AND), head);
+
+        assert_eq!(read_program(&[]), refused(1, 0));
+        assert_eq!(read_program(&AND[..55]), refused(2, 0));
+        assert_eq!(read_program(&changed(AND, 34, 2)), refused(3, 0));
+        assert_eq!(read_program(&changed(AND, 32, 65)), refused(4, 0));
+        assert_eq!(read_program(&changed(AND, 50, 2)), refused(5, 2));
+        assert_eq!(read_program(&changed(AND, 54, 3)), refused(6, 0));
     }
 
     // The wrapper turns the value into a bool, so only here can a value above 1 be seen.
@@ -190,13 +229,16 @@ mod tests {
     }
 
     #[test]
-    fn the_answer_to_a_circuit_is_its_number_of_gates() {
-        assert_eq!(read_circuit(&CIRCUIT), answer(0, 3));
-        assert_eq!(read_circuit(&[]), answer(1, 0));
+    fn the_answer_to_a_circuit_is_its_numbers() {
+        let numbers = changed(changed(changed(CIRCUIT, 22, 5), 24, 4), 26, 7);
+        let head = Head { number: 0, value: 3, inputs: 5, outputs: 4, work: 7 };
+        assert_eq!(read_circuit(&numbers), head);
 
-        let mut bad_gate = CIRCUIT;
-        bad_gate[44] = 4;
-        assert_eq!(read_circuit(&bad_gate), answer(12, 2));
+        assert_eq!(read_circuit(&[]), refused(1, 0));
+        assert_eq!(read_circuit(&CIRCUIT[..51]), refused(2, 0));
+        assert_eq!(read_circuit(&changed(CIRCUIT, 18, 23)[..51]), refused(3, 0));
+        assert_eq!(read_circuit(&changed(CIRCUIT, 24, 65)), refused(4, 0));
+        assert_eq!(read_circuit(&changed(CIRCUIT, 44, 4)), refused(12, 2));
     }
 
     // The wrapper drops the value, so only here can another one than 0 be seen.

@@ -29,11 +29,45 @@ impl fmt::Display for Refusal {
 
 impl Error for Refusal {}
 
-/// Reads and checks a program file and gives its number of nodes.
+/// How many inputs, outputs and nodes a program file has.
+#[derive(Debug, Clone, Copy, PartialEq, Eq)]
+pub struct ProgramHead {
+    /// The number of inputs, at most 64.
+    pub inputs: usize,
+    /// The number of outputs, 1 to 64.
+    pub outputs: usize,
+    /// The number of nodes, 1 to 4,096: [`evaluate`] and [`compile`] need an entry for each.
+    pub nodes: usize,
+}
+
+/// How many inputs, outputs, work lines and gates a circuit file has.
+#[derive(Debug, Clone, Copy, PartialEq, Eq)]
+pub struct CircuitHead {
+    /// The number of inputs, at most 64.
+    pub inputs: usize,
+    /// The number of outputs, 1 to 64. Each has a target, which is a line.
+    pub outputs: usize,
+    /// The number of work lines, at most 1,024.
+    pub work: usize,
+    /// The number of gates, at most 8,000.
+    pub gates: usize,
+}
+
+impl CircuitHead {
+    /// The number of lines, inputs, targets and work lines together: as many bytes are to be lent
+    /// to [`run_forwards`], [`run_backwards`] and [`undo`].
+    pub fn lines(&self) -> usize {
+        self.inputs + self.outputs + self.work
+    }
+}
+
+/// Reads and checks a program file and gives its numbers.
 ///
 /// `file` is only read. Refusals: 1 to 6.
-pub fn read_program(file: &[u8]) -> Result<u64, Refusal> {
-    result(archive::read_program(file))
+pub fn read_program(file: &[u8]) -> Result<ProgramHead, Refusal> {
+    let head = archive::read_program(file);
+    let nodes = result(head.answer())? as usize;
+    Ok(ProgramHead { inputs: head.inputs as usize, outputs: head.outputs as usize, nodes })
 }
 
 /// Evaluates one output of a program file on the given input bits.
@@ -80,18 +114,26 @@ pub fn compile(
     Ok(length as usize)
 }
 
-/// Reads and checks a circuit file and gives its number of gates.
+/// Reads and checks a circuit file and gives its numbers.
 ///
 /// `file` is only read. Refusals: 1 to 4 and 12.
-pub fn read_circuit(file: &[u8]) -> Result<u64, Refusal> {
-    result(archive::read_circuit(file))
+pub fn read_circuit(file: &[u8]) -> Result<CircuitHead, Refusal> {
+    let head = archive::read_circuit(file);
+    let gates = result(head.answer())? as usize;
+    Ok(CircuitHead {
+        inputs: head.inputs as usize,
+        outputs: head.outputs as usize,
+        work: head.work as usize,
+        gates,
+    })
 }
 
 /// Runs a circuit file on the given lines, the first gate first.
 ///
 /// - `file` is only read.
-/// - `lines` is one byte, 0 or 1, for each line: inputs, then targets, then work lines. On a result
-///   they are the lines after the run. On a refusal they are as they were.
+/// - `lines` is one byte, 0 or 1, for each line: inputs, then targets, then work lines. How many
+///   there are is said by [`CircuitHead::lines`]. On a result they are the lines after the run. On a
+///   refusal they are as they were.
 ///
 /// Refusals: 1 to 4 and 12 of the file; 13, `lines` has the wrong length or a byte that is no bit.
 pub fn run_forwards(file: &[u8], lines: &mut [u8]) -> Result<(), Refusal> {

@@ -7,7 +7,8 @@ use Rattle.circuit.specs.declared.reader.CircuitHead.{CircuitHead}
 use Rattle.circuit.specs.Circuits.{headOf}
 use Rattle.undo.specs.UndoCircuit.{undoFile, undone}
 use Rattle.undo.proofs.UndoneLaws.{undid, undone-few}
-use Rattle.oracle.proofs.ExportLaws.{counted, fileBytes, bytes-written}
+use Rattle.oracle.specs.Exported.{exported}
+use Rattle.oracle.proofs.ExportLaws.{answer-shown, fileBytes, bytes-written}
 use Rattle.oracle.proofs.oracle_undo.Statement.{statement}
 use Rattle.oracle.proofs.oracle_undo.Tie as tie
 
@@ -38,7 +39,7 @@ returns : tie.Need-returns
 returns c =
     let a = c .before .before .before .before .before .before .before .before .before .before .before .args in
     let x = undoFile (a .file .now) (a .choices .now) (length (a .area .now)) in
-    (c .written .ensures ∙ counted headOf fileBytes x (ap undone (c .before .before .head .given .1)) (c .before .before .before .before .before .before .undo .ensures .0) ∙ bytes-written x, c .before .before .before .before .before .before .undo .ensures .1)
+    (c .written .ensures ∙ answer-shown exported headOf fileBytes x (ap undone (c .before .before .head .given .1)) (c .before .before .before .before .before .before .undo .ensures .0) ∙ bytes-written x, c .before .before .before .before .before .before .undo .ensures .1)
 
 same-length-2 : tie.Need-same-length-2
 same-length-2 c = search needs
@@ -47,7 +48,7 @@ returns-2 : tie.Need-returns-2
 returns-2 c =
     let a = c .before .before .before .before .before .before .before .before .before .before .before .args in
     let x = undoFile (a .file .now) (a .choices .now) (length (a .area .now)) in
-    (c .refusal .ensures ∙ counted headOf fileBytes x (ap undone (c .before .before .why .given .1)) (c .before .before .before .before .before .before .undo .ensures .0) ∙ bytes-written x, c .before .before .before .before .before .before .undo .ensures .1)
+    (c .refusal .ensures ∙ answer-shown exported headOf fileBytes x (ap undone (c .before .before .why .given .1)) (c .before .before .before .before .before .before .undo .ensures .0) ∙ bytes-written x, c .before .before .before .before .before .before .undo .ensures .1)
 
 pub oracle-undo-spec : {M : Type 1} → statement M
 oracle-undo-spec =

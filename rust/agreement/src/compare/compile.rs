@@ -122,11 +122,9 @@ fn reads_back(case: &Case, written: &[u8]) {
     for (at, (gate, wanted)) in given.gates.iter().zip(&wanted.gates).enumerate() {
         assert_eq!(gate, wanted, "gate {at}, {}", case.describe());
     }
-    let count = wanted.gates.len();
-    assert_eq!(given.gates.len(), count, "the number of gates, {}", case.describe());
-    assert_eq!(read::CIRCUIT.archive(written), Ok(count as u64), "{}", case.describe());
-    let head = |circuit: &model::circuit::Circuit| (circuit.inputs, circuit.outputs, circuit.work);
-    assert_eq!(head(&given), head(&wanted), "the head, {}", case.describe());
+    let head = read::head_of(&wanted);
+    assert_eq!(read::head_of(&given), head, "the head, {}", case.describe());
+    assert_eq!(read::CIRCUIT.archive(written), Ok(head), "{}", case.describe());
 }
 
 /// The work lines and the bytes that the circuit of a program file needs, where no output is too

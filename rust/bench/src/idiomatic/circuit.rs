@@ -1,5 +1,7 @@
 //! The services on circuit files.
 
+use oracle::CircuitHead;
+
 use super::{bodies, u16_at, Refused};
 
 const HEAD_LENGTH: usize = 6;
@@ -24,10 +26,11 @@ impl Circuit<'_> {
     }
 }
 
-/// Reads and checks a circuit file and gives its number of gates.
-pub fn read_circuit(file: &[u8]) -> Result<u64, Refused> {
+/// Reads and checks a circuit file and gives its numbers.
+pub fn read_circuit(file: &[u8]) -> Result<CircuitHead, Refused> {
     let circuit = read(file)?;
-    Ok((circuit.gates.len() / GATE_LENGTH) as u64)
+    let [inputs, outputs, work] = numbers(circuit.head);
+    Ok(CircuitHead { inputs, outputs, work, gates: circuit.gates.len() / GATE_LENGTH })
 }
 
 /// Runs a circuit file, the first gate first.
@@ -83,7 +86,7 @@ fn read(file: &[u8]) -> Result<Circuit<'_>, Refused> {
         return Err((3, 0));
     }
 
-    let [n, m, w] = [0, 2, 4].map(|at| usize::from(u16_at(head, at)));
+    let [n, m, w] = numbers(head);
     if n > 64 || !(1..=64).contains(&m) || w > 1024 {
         return Err((4, 0));
     }
@@ -93,6 +96,11 @@ fn read(file: &[u8]) -> Result<Circuit<'_>, Refused> {
         Some(index) => Err((12, index as u64)),
         None => Ok(Circuit { head, gates, lines }),
     }
+}
+
+/// The numbers of inputs, outputs and work lines.
+fn numbers(head: &[u8]) -> [usize; 3] {
+    [0, 2, 4].map(|at| usize::from(u16_at(head, at)))
 }
 
 fn is_good(gate: &[u8], lines: usize) -> bool {

@@ -1,5 +1,7 @@
 //! The services read_program and evaluate.
 
+use oracle::ProgramHead;
+
 use super::{bodies, u16_at, Refused};
 
 const NODE_LENGTH: usize = 6;
@@ -50,9 +52,14 @@ impl<'a> Program<'a> {
     }
 }
 
-/// Reads and checks a program file and gives its number of nodes.
-pub fn read_program(file: &[u8]) -> Result<u64, Refused> {
-    Ok(read(file)?.node_count() as u64)
+/// Reads and checks a program file and gives its numbers.
+pub fn read_program(file: &[u8]) -> Result<ProgramHead, Refused> {
+    let program = read(file)?;
+    Ok(ProgramHead {
+        inputs: program.inputs.into(),
+        outputs: program.output_count().into(),
+        nodes: program.node_count(),
+    })
 }
 
 /// Evaluates one output of a program file.
