@@ -39,7 +39,9 @@ examples =
     let xor : Known xorFile = record { reads = refl; small = refl; few = omega arith } in
     record {
       whole = row whole _ (omega arith) (omega arith) (leb-true _ 64028 refl) refl;
-      whole-bytes = refl;
+      whole-length = refl;
+      whole-bytes = record { writes = refl; reads = refl };
+      wide-bytes = record { writes = refl; reads = refl };
       whole-area = λ grant sizes area. area-refused whole grant sizes area 67 (omega arith);
       whole-grant = λ sizes area. lines-refused whole 1 sizes area (omega arith) (omega arith);
       whole-target = λ grant sizes area a b c d. ap (λ (file : List ℕ). runForwards file (1 ∷ 1 ∷ 1 ∷ 0 ∷ 0 ∷ [])) (written whole grant sizes area a b c d);

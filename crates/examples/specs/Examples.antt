@@ -1,4 +1,4 @@
--- The starred examples of 01, as one table about the definitions of reading, compiling, running and listing.
+-- The starred examples of 01, as one table about the definitions of reading, compiling, running and listing, and the bytes of two circuit files.
 use Prim.Native.Nat.{ℕ, _≤_}
 use Prim.Native.String.{String}
 use mathlib.Core.Path.{_≡_}
@@ -9,6 +9,7 @@ use Rattle.gate.specs.declared.gates.Gate.the-variants.{Cnot, Toffoli}
 use Rattle.gate.specs.declared.gates.Gate.the-variants as gate
 use Rattle.circuit.specs.Circuits.{Circuit, headOf}
 use Rattle.circuit.specs.Format.{circuitFile}
+use Rattle.circuit.specs.Reading.{readCircuit}
 use Rattle.run.specs.RunCircuit.{runForwards}
 use Rattle.program.specs.declared.node.Node.the-variants.{Input, Xor, And}
 use Rattle.program.specs.declared.node.Node.the-variants as node
@@ -34,6 +35,34 @@ wholeFile =
 -- its circuit
 abbrev pub wholeCircuit : Circuit
 wholeCircuit = record { inputs = 2; outputs = 1; work = 2; gates = Cnot 0 3 ∷ Cnot 1 4 ∷ Toffoli 3 4 2 ∷ Cnot 1 4 ∷ Cnot 0 3 ∷ [] }
+
+-- its circuit's file: the table of contents, the numbers of inputs, outputs and work lines, the gates
+abbrev pub wholeCircuitFile : List ℕ
+wholeCircuitFile =
+    0x02 ∷ 0x00
+    ∷ 0x11 ∷ 0x00 ∷ 0x16 ∷ 0x00 ∷ 0x00 ∷ 0x00 ∷ 0x06 ∷ 0x00 ∷ 0x00 ∷ 0x00
+    ∷ 0x12 ∷ 0x00 ∷ 0x1c ∷ 0x00 ∷ 0x00 ∷ 0x00 ∷ 0x28 ∷ 0x00 ∷ 0x00 ∷ 0x00
+    ∷ 0x02 ∷ 0x00 ∷ 0x01 ∷ 0x00 ∷ 0x02 ∷ 0x00
+    ∷ 0x02 ∷ 0x00 ∷ 0x00 ∷ 0x00 ∷ 0x00 ∷ 0x00 ∷ 0x03 ∷ 0x00
+    ∷ 0x02 ∷ 0x00 ∷ 0x01 ∷ 0x00 ∷ 0x00 ∷ 0x00 ∷ 0x04 ∷ 0x00
+    ∷ 0x03 ∷ 0x00 ∷ 0x03 ∷ 0x00 ∷ 0x04 ∷ 0x00 ∷ 0x02 ∷ 0x00
+    ∷ 0x02 ∷ 0x00 ∷ 0x01 ∷ 0x00 ∷ 0x00 ∷ 0x00 ∷ 0x04 ∷ 0x00
+    ∷ 0x02 ∷ 0x00 ∷ 0x00 ∷ 0x00 ∷ 0x00 ∷ 0x00 ∷ 0x03 ∷ 0x00 ∷ []
+
+-- a circuit with a gate of each kind, more than 255 work lines, and no number twice where two could be exchanged
+abbrev pub wideCircuit : Circuit
+wideCircuit = record { inputs = 3; outputs = 2; work = 260; gates = gate.Not 261 ∷ Cnot 1 264 ∷ Toffoli 256 259 4 ∷ [] }
+
+-- its file: 260 is 0x0104, and the lines 261, 264, 256 and 259 have two bytes each
+abbrev pub wideCircuitFile : List ℕ
+wideCircuitFile =
+    0x02 ∷ 0x00
+    ∷ 0x11 ∷ 0x00 ∷ 0x16 ∷ 0x00 ∷ 0x00 ∷ 0x00 ∷ 0x06 ∷ 0x00 ∷ 0x00 ∷ 0x00
+    ∷ 0x12 ∷ 0x00 ∷ 0x1c ∷ 0x00 ∷ 0x00 ∷ 0x00 ∷ 0x18 ∷ 0x00 ∷ 0x00 ∷ 0x00
+    ∷ 0x03 ∷ 0x00 ∷ 0x02 ∷ 0x00 ∷ 0x04 ∷ 0x01
+    ∷ 0x01 ∷ 0x00 ∷ 0x00 ∷ 0x00 ∷ 0x00 ∷ 0x00 ∷ 0x05 ∷ 0x01
+    ∷ 0x02 ∷ 0x00 ∷ 0x01 ∷ 0x00 ∷ 0x00 ∷ 0x00 ∷ 0x08 ∷ 0x01
+    ∷ 0x03 ∷ 0x00 ∷ 0x00 ∷ 0x01 ∷ 0x03 ∷ 0x01 ∷ 0x04 ∷ 0x00 ∷ []
 
 -- the file of NOR as AND of two NOTs
 abbrev pub norFile : List ℕ
@@ -76,6 +105,11 @@ pub record CompiledCase (file : List ℕ) (p : Program) (s : List ℕ) (c : Circ
       → compileOf file grant sizes area ≡ record { answer = result (headOf c); sizes = s ++ drop (length (p .nodes)) sizes; area = circuitFile c ++ drop (length (circuitFile c)) area }
   pub prints : listing (compileFile file 1024 4096 64028) ≡ ascii text
 
+-- a circuit is written as these bytes, and they are read as the circuit
+pub record FileBytes (c : Circuit) (bytes : List ℕ) : Type 0 where
+  pub writes : circuitFile c ≡ bytes
+  pub reads : readCircuit bytes ≡ result c
+
 -- the file that compiling the whole case writes, run forwards on start, gives after
 abbrev pub WholeRun : List ℕ → List ℕ → Type 0
 WholeRun start after =
@@ -87,8 +121,11 @@ pub record Examples : Type 0 where
   -- the whole case
   pub whole : CompiledCase wholeFile (record { inputs = 2; nodes = Input 0 ∷ Input 1 ∷ And 0 1 ∷ []; outputs = 2 ∷ [] }) (1 ∷ 1 ∷ 3 ∷ []) wholeCircuit
       "lines 2 1 2 gates 5\nC 0 3\nC 1 4\nT 3 4 2\nC 1 4\nC 0 3\n"
-  -- its circuit file has 68 bytes
-  pub whole-bytes : length (circuitFile wholeCircuit) ≡ 68
+  -- its circuit file has 68 bytes, and these are they
+  pub whole-length : length (circuitFile wholeCircuit) ≡ 68
+  pub whole-bytes : FileBytes wholeCircuit wholeCircuitFile
+  -- a second file byte for byte, with a NOT and w over 255
+  pub wide-bytes : FileBytes wideCircuit wideCircuitFile
   -- an area of 67 gives 11, place 5, and is all zero
   pub whole-area : (grant : ℕ) (sizes area : List ℕ) → 2 ≤ grant → grant ≤ 1024 → 3 ≤ length sizes → length area ≡ 67
       → compileOf wholeFile grant sizes area ≡ record { answer = refused 11 5; sizes = 1 ∷ 1 ∷ 3 ∷ drop 3 sizes; area = replicate 67 0 }
