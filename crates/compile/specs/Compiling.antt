@@ -33,7 +33,7 @@ programCircuit p =
       gates = circuit (p .inputs) (outputTrees p);
     }
 
--- compiling a program with a grant (01: the work lines allowed) into an area of so many bytes
+-- compiling a program with a grant (01), the number of work lines allowed, into an area of so many bytes
 unfoldable pub compileProgram : Program → ℕ → ℕ → Answer Circuit
 compileProgram p grant room =
     checkEach (λ k. leb (size (outputTree p k)) 16384) (length (p .outputs)) cause.Size  -- 8
@@ -49,7 +49,7 @@ readWithSizes file entries =
     check (leb (length (p .nodes)) entries) cause.ListLength  -- 7
     (result p))
 
--- compiling a program file
+-- compiling a program file; the program is accepted (01) where this is a result
 unfoldable pub compileFile : List ℕ → ℕ → ℕ → ℕ → Answer Circuit
 compileFile file grant entries room = andThen (readWithSizes file entries) (λ p. compileProgram p grant room)
 

@@ -21,7 +21,7 @@ use Rattle.compile.specs.Compiling.{outputTrees, programCircuit, compile
 abbrev pub fileWritten : CircuitHead → List ℕ → List ℕ
 fileWritten h area = take (fileLength (h .gates)) area
 
--- the gates of the shares of the first j outputs
+-- the gates of the shares of the first j outputs (01)
 abbrev pub firstOutputs : Program → ℕ → List Gate
 firstOutputs p j = firstShares (p .inputs) (outputTrees p) j
 

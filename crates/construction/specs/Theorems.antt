@@ -40,7 +40,7 @@ pub record Apart (n : ℕ) (e : Expr) (t f L : ℕ) : Type 0 where
 abbrev pub Zeros : ℕ → ℕ → List ℕ → Type 0
 Zeros f k s = (i : ℕ) → f ≤ i → i < f + k → bit s i ≡ 0
 
--- after the gates of a tree, line t holds its first bit XOR the tree's value on the input lines
+-- after the gates of a tree, line t holds its first bit XOR the tree's value on the input lines (01): each input bit is what its line holds at the start
 abbrev pub Computes : List Gate → ℕ → Expr → ℕ → List ℕ → Type 0
 Computes gs n e t s = bit (run gs s) t ≡ xorBit (bit s t) (value e (take n s))
 
@@ -75,7 +75,7 @@ pub record Start (lines : ℕ) (start : List ℕ) : Type 0 where
   pub long : length start ≡ lines
   pub bits : Bits start
 
--- the shares of the first j outputs, and the pool after them
+-- the shares of the first j outputs (01), and the pool after them
 unfoldable pub firstBuilt : ℕ → List Expr → ℕ → Built
 firstBuilt n es j = shares (take j es) n (allFree (n + length es))
 
@@ -87,7 +87,7 @@ firstShares n es j = firstBuilt n es j .gates
 unfoldable pub shareOf : ℕ → List Expr → ℕ → List Gate
 shareOf n es j = share (getD es j ZERO) (n + j) (firstBuilt n es j .pool) .gates
 
--- what the shares of the first j of m outputs leave of a start, where there are n inputs and w work lines, and v k is the value of output k
+-- after the shares of the first j outputs (01): what they leave of a start, where there are n inputs, m outputs and w work lines, and v k is the value of output k
 pub record After (n m w : ℕ) (v : ℕ → ℕ) (j : ℕ) (start after : List ℕ) : Type 0 where
   pub long : length after ≡ length start
   -- every input line and every work line is as it started

@@ -49,9 +49,9 @@ wholeCircuitFile =
     ∷ 0x02 ∷ 0x00 ∷ 0x01 ∷ 0x00 ∷ 0x00 ∷ 0x00 ∷ 0x04 ∷ 0x00
     ∷ 0x02 ∷ 0x00 ∷ 0x00 ∷ 0x00 ∷ 0x00 ∷ 0x00 ∷ 0x03 ∷ 0x00 ∷ []
 
--- a circuit with a gate of each kind, more than 255 work lines, and no number twice where two could be exchanged
+-- a circuit with a gate of each kind, more than 255 work lines, and no number twice where two could be exchanged; its last gate targets an input, as only a circuit not made by the compiler does
 abbrev pub wideCircuit : Circuit
-wideCircuit = record { inputs = 3; outputs = 2; work = 260; gates = gate.Not 261 ∷ Cnot 1 264 ∷ Toffoli 256 259 4 ∷ [] }
+wideCircuit = record { inputs = 3; outputs = 2; work = 260; gates = gate.Not 261 ∷ Cnot 1 264 ∷ Toffoli 256 259 2 ∷ [] }
 
 -- its file: 260 is 0x0104, and the lines 261, 264, 256 and 259 have two bytes each
 abbrev pub wideCircuitFile : List ℕ
@@ -62,7 +62,7 @@ wideCircuitFile =
     ∷ 0x03 ∷ 0x00 ∷ 0x02 ∷ 0x00 ∷ 0x04 ∷ 0x01
     ∷ 0x01 ∷ 0x00 ∷ 0x00 ∷ 0x00 ∷ 0x00 ∷ 0x00 ∷ 0x05 ∷ 0x01
     ∷ 0x02 ∷ 0x00 ∷ 0x01 ∷ 0x00 ∷ 0x00 ∷ 0x00 ∷ 0x08 ∷ 0x01
-    ∷ 0x03 ∷ 0x00 ∷ 0x00 ∷ 0x01 ∷ 0x03 ∷ 0x01 ∷ 0x04 ∷ 0x00 ∷ []
+    ∷ 0x03 ∷ 0x00 ∷ 0x00 ∷ 0x01 ∷ 0x03 ∷ 0x01 ∷ 0x02 ∷ 0x00 ∷ []
 
 -- the file of NOR as AND of two NOTs
 abbrev pub norFile : List ℕ

@@ -23,7 +23,7 @@ unfoldable pub run : List Gate → List ℕ → List ℕ
 run [] s = s
 run (g ∷ gs) s = run gs (step g s)
 
--- the lines after all gates, last to first
+-- the lines after all gates run backwards (01), last to first
 abbrev pub runBack : List Gate → List ℕ → List ℕ
 runBack gs s = run (reverse gs) s
 
@@ -32,6 +32,6 @@ unfoldable pub without : (ℕ → Bool) → List Gate → List Gate
 without out [] = []
 without out (g ∷ gs) = cond (out (target g)) (without out gs) (g ∷ without out gs)
 
--- undoing the gates except those whose target is left out: the others, reversed
+-- undoing the gates (001, uncompute) except those whose target is left out: the others, reversed
 unfoldable pub uncompute : (ℕ → Bool) → List Gate → List Gate
 uncompute out gs = reverse (without out gs)

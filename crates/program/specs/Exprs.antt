@@ -10,7 +10,7 @@ pub data Expr : Type 0 where
   NOT : Expr → Expr
   XOR AND : Expr → Expr → Expr
 
--- the value on the input bits x; NOT is 1 XOR its operand (001)
+-- the value (01) on the input bits x; NOT is 1 XOR its operand (001)
 unfoldable pub value : Expr → List ℕ → ℕ
 value ZERO x = 0
 value ONE x = 1

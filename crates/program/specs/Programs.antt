@@ -21,7 +21,7 @@ headOf p = record { inputs = p .inputs; outputs = length (p .outputs); nodes = l
 unfoldable pub outputTree : Program → ℕ → Expr
 outputTree p k = getD (trees (p .nodes)) (getD (p .outputs) k 0) ZERO
 
--- the value of output k on the input bits x
+-- the value (01) of output k on the input bits x: its node's
 unfoldable pub outputValue : Program → List ℕ → ℕ → ℕ
 outputValue p x k = value (outputTree p k) x
 

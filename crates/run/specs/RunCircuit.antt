@@ -11,7 +11,7 @@ use Rattle.run.specs.declared.Ran.the-variants.{Done, Refused}
 unfoldable pub runForwards : List ℕ → List ℕ → Answer (List ℕ)
 runForwards file lines = mapAnswer (λ c. run (c .gates) lines) (readWithLines file lines)
 
--- running a file backwards: the lines after its gates, last to first
+-- running a file backwards (01): the lines after its gates, last to first
 unfoldable pub runBackwards : List ℕ → List ℕ → Answer (List ℕ)
 runBackwards file lines = mapAnswer (λ c. runBack (c .gates) lines) (readWithLines file lines)
 

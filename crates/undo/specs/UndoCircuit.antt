@@ -15,7 +15,7 @@ use Rattle.circuit.specs.Reading.{readWithLines}
 use Rattle.undo.specs.declared.Undone.{Undone}
 use Rattle.undo.specs.declared.Undone.the-variants.{Written, Refused}
 
--- line i is chosen: gates with this target are left out
+-- line i is chosen: its choice byte (01) is 1, and gates with this target are left out
 abbrev pub chosen : List ℕ → ℕ → Bool
 chosen choices i = eqb (bit choices i) 1
 
