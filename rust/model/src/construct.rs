@@ -4,14 +4,21 @@
 //! A node is unfolded at each use, so the time that all but [`sizes`] take grows with the unfolded
 //! size.
 
+use std::collections::BTreeSet;
+
 use crate::circuit::{Circuit, Gate};
 use crate::program::{Node, Program};
 
-/// The gates that XOR node i into line t, with f the lowest free line: C.
+/// The gates that XOR node i into line t, with the work lines from f on all free: C.
 pub fn build(nodes: &[Node], i: usize, t: usize, f: usize) -> Vec<Gate> {
-    let mut building = Building { nodes, free: f, gates: Vec::new() };
+    built(nodes, i, t, f).gates
+}
+
+fn built(nodes: &[Node], i: usize, t: usize, f: usize) -> Building<'_> {
+    let lines = WorkLines { first: f, in_use: BTreeSet::new(), most: 0 };
+    let mut building = Building { nodes, lines, gates: Vec::new() };
     building.xor_into(i, t);
-    building.gates
+    building
 }
 
 /// The gates of output k: C, then C reversed without the gates whose target is the output's.
@@ -35,16 +42,40 @@ pub fn circuit(program: &Program) -> Circuit {
     Circuit {
         inputs: program.inputs,
         outputs: program.outputs.len(),
-        work: most_work_lines(program),
+        work: program.outputs.iter().map(|i| most_in_use(&program.nodes, *i)).max().unwrap_or(0),
         gates: shares(program, program.outputs.len()),
     }
 }
 
-/// The gates so far. No line is given back before the share is over, so the free lines are all
-/// those from the lowest on.
+/// The most work lines that are in use together while node i is built: which lines they are, and
+/// where it is built, is all one.
+fn most_in_use(nodes: &[Node], i: usize) -> usize {
+    built(nodes, i, 0, 1).lines.most
+}
+
+/// The work lines from the first on: those in use, and the most that were in use together.
+struct WorkLines {
+    first: usize,
+    in_use: BTreeSet<usize>,
+    most: usize,
+}
+
+impl WorkLines {
+    fn take_lowest_free(&mut self) -> usize {
+        let mut line = self.first;
+        while self.in_use.contains(&line) {
+            line += 1;
+        }
+        self.in_use.insert(line);
+        self.most = self.most.max(self.in_use.len());
+        line
+    }
+}
+
+/// The gates so far. No line is given back before the share is over.
 struct Building<'a> {
     nodes: &'a [Node],
-    free: usize,
+    lines: WorkLines,
     gates: Vec<Gate>,
 }
 
@@ -63,19 +94,13 @@ impl Building<'_> {
                 self.xor_into(b, t);
             }
             Node::And(a, b) => {
-                let first = self.take();
+                let first = self.lines.take_lowest_free();
                 self.xor_into(a, first);
-                let second = self.take();
+                let second = self.lines.take_lowest_free();
                 self.xor_into(b, second);
                 self.gates.push(Gate::Toffoli(first, second, t));
             }
         }
-    }
-
-    fn take(&mut self) -> usize {
-        let line = self.free;
-        self.free += 1;
-        line
     }
 }
 
@@ -124,7 +149,7 @@ pub fn own_gate_count(nodes: &[Node], i: usize) -> usize {
     }
 }
 
-/// How many work lines building node i takes.
+/// How many work lines building node i takes, counted from its operands.
 pub fn work_lines(nodes: &[Node], i: usize) -> usize {
     match nodes[i] {
         Node::Zero | Node::One | Node::Input(_) => 0,
@@ -140,7 +165,7 @@ pub fn share_gate_count(nodes: &[Node], i: usize) -> usize {
     2 * gate_count(nodes, i) - own_gate_count(nodes, i)
 }
 
-/// The circuit's w: the most work lines that any output takes.
+/// The circuit's w, counted: the most work lines that any output takes.
 pub fn most_work_lines(program: &Program) -> usize {
     program.outputs.iter().map(|i| work_lines(&program.nodes, *i)).max().unwrap_or(0)
 }
@@ -177,6 +202,7 @@ mod tests {
         assert_eq!((circuit.work, &circuit.gates[..]), (work, gates));
         let counts = program.outputs.iter().map(|i| share_gate_count(&program.nodes, *i));
         assert_eq!(counts.sum::<usize>(), gates.len());
+        assert_eq!(most_work_lines(program), work);
     }
 
     /// The lines after the circuit's file has run forwards.
@@ -210,6 +236,16 @@ mod tests {
             [Node::Input(0), Node::Input(1), Node::And(0, 1), Node::Input(2), Node::And(2, 3)];
         let build = [Cnot(0, 5), Cnot(1, 6), Toffoli(5, 6, 4), Cnot(2, 7), Toffoli(4, 7, 3)];
         let clean = [Cnot(2, 7), Toffoli(5, 6, 4), Cnot(1, 6), Cnot(0, 5)];
+        gives(&program(3, &nodes, &[4]), 4, &[&build[..], &clean].concat());
+    }
+
+    /// The line of the second operand is taken before those of its own operands.
+    #[test]
+    fn and_of_an_input_and_an_and() {
+        let nodes =
+            [Node::Input(0), Node::Input(1), Node::Input(2), Node::And(1, 2), Node::And(0, 3)];
+        let build = [Cnot(0, 4), Cnot(1, 6), Cnot(2, 7), Toffoli(6, 7, 5), Toffoli(4, 5, 3)];
+        let clean = [Toffoli(6, 7, 5), Cnot(2, 7), Cnot(1, 6), Cnot(0, 4)];
         gives(&program(3, &nodes, &[4]), 4, &[&build[..], &clean].concat());
     }
 
