@@ -1,18 +1,17 @@
 -- Laws of listing what the service compile answers with the size list and the area that are lent to it. Assumes nothing.
 use Prim.Native.Nat.{ℕ, _≤_}
-use mathlib.Core.Path.{_≡_, sym, ap, subst, _∙_}
-use mathlib.Core.List.{List}
-use lib.ListN.{length, take}
-use Rattle.io.specs.Counts.{Counts}
+use mathlib.Core.Path.{_≡_, sym, ap, _∙_}
+use mathlib.Core.List.{List, _++_}
+use lib.ListN.{length, drop}
 use Rattle.wire.specs.Answers.{Answer, mapAnswer}
 use Rattle.wire.proofs.AnswerLaws.{same-result}
 use Rattle.circuit.specs.Circuits.{Circuit, headOf}
 use Rattle.compile.specs.declared.Compiled.{Compiled}
 use Rattle.compile.specs.Compiling.{compileFile, compileOf, compiled}
 use Rattle.compile.proofs.AcceptedLaws.{Accepted, accepted, legal}
-use Rattle.text.specs.Lines.{listing}
+use Rattle.text.specs.Lines.{listingOf}
 use Rattle.text.specs.Putting.{Put, listed, Listable}
-use Rattle.text.proofs.ListingLaws.{LegalResult, listed-is, listable, put-whole, put-counts}
+use Rattle.text.proofs.ListingLaws.{LegalResult, listed-is, listable, put-whole}
 
 module _ (f : List ℕ) (grant : ℕ) (sizes area₀ : List ℕ) where
   -- what compiling gives
@@ -36,14 +35,7 @@ module _ (f : List ℕ) (grant : ℕ) (sizes area₀ : List ℕ) where
     can-list = listable x legal-result area₀ answer area buffer a s n
 
     -- and once it is put it is that of the file
-    module _ {r : ℕ} {new : List ℕ} (p : Put (listed answer area) 0 r buffer new) where
-      pub lists : take r new ≡ listing x
-      unfolding compileOf
-      lists = put-whole (can-list .room) p ∙ listed-is x legal-result area₀ answer area a s
-
-      pub lists-put : Put (listing x) 0 r buffer new
-      unfolding compileOf
-      lists-put = subst (λ (t : List ℕ). Put t 0 r buffer new) (listed-is x legal-result area₀ answer area a s) p
-
-      pub lists-counts : Counts r new
-      lists-counts = put-counts (can-list .room) p
+    pub lists : length sizes ≡ 4096 → length area₀ ≡ 64028 → {r : ℕ} {new : List ℕ} → Put (listed answer area) 0 r buffer new
+        → (r ≡ length (listingOf f grant)) × (new ≡ listingOf f grant ++ drop r buffer)
+    unfolding compileOf
+    lists e k p = rw (listed-is x legal-result area₀ answer area a s, e, k) at (put-whole (can-list .fits) p)

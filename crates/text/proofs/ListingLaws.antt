@@ -23,10 +23,9 @@ use Rattle.circuit.proofs.WriterLaws.{opening-length, file-length}
 use Rattle.compile.specs.declared.Compiled.{Compiled}
 use Rattle.compile.specs.declared.Compiled.the-variants.{Written, Refused}
 use Rattle.compile.specs.Compiling.{compiled}
-use Rattle.text.specs.Lines.{ascii, field, line, gateLine, gateLines, headLine, refusedLine, listing}
-use Rattle.text.specs.Putting.{Put, Room, bodyIn, listed, Listable}
+use Rattle.text.specs.Lines.{ascii, field, line, gateLine, gateLines, headLine, refusedLine, listing, listingOf}
+use Rattle.text.specs.Putting.{Put, TextFits, bodyIn, listed, Listable}
 use Rattle.text.proofs.DigitLaws.{field-most, field-small}
-use Rattle.text.proofs.PutLaws.{put-length}
 
 -- the fields of one, two and three numbers
 fields-one : (a : ℕ) → length (flatMap field (a ∷ [])) ≡ length (field a)
@@ -162,13 +161,14 @@ module _ (x : Answer Circuit) (legal : LegalResult x) (area₀ : List ℕ) where
   listable answer area buffer a s n =
       record {
         there = gates-there answer area a s;
-        room = record { fits = omega (arith, ap length (listed-is answer area a s), listing-most x legal) };
+        fits = record { fits = omega (arith, ap length (listed-is answer area a s), listing-most x legal) };
       }
 
--- a text put at the start of a buffer is what stands there
-pub put-whole : {text : List ℕ} {r : ℕ} {old new : List ℕ} → Room text 0 old → Put text 0 r old new → take r new ≡ text
-put-whole {text} {r} {old} room p =
-    ap (take r) (p .stored ∙ sets-eq text old 0 (room .fits)) ∙ take-at text (drop (0 + length text) old) r (omega (arith, p .ends))
+-- a text put at the start of a buffer stands there, with what stood behind it
+pub put-whole : {text : List ℕ} {r : ℕ} {old new : List ℕ} → TextFits text 0 old → Put text 0 r old new → (r ≡ length text) × (new ≡ text ++ drop r old)
+put-whole {text} {r} {old} f p =
+    (omega (arith, p .ends), rw (p .ends) (p .stored ∙ sets-eq text old 0 (f .fits)))
 
-pub put-counts : {text : List ℕ} {r : ℕ} {old new : List ℕ} → Room text 0 old → Put text 0 r old new → Counts r new
-put-counts {text} {r} {old} {new} room p = counts r new (omega (arith, room .fits, p .ends, put-length p))
+-- the listing of a file, once it is put, ends within the buffer
+pub end-within : (file : List ℕ) (grant : ℕ) (old : List ℕ) {r : ℕ} {new : List ℕ} → (r ≡ length (listingOf file grant)) × (new ≡ listingOf file grant ++ drop r old) → Counts r new
+end-within file grant old {r} {new} w = counts r new (omega (arith, w .0, simp length-append at (ap length (w .1))))

@@ -8,7 +8,7 @@ use lib.ListN.{length, getD, take, drop, set, length-append, length-set}
 use lib.Seq.{sets, length-sets, split-at, take-all}
 use Rattle.wire.proofs.ListLaws.{sets-then, take-next}
 use Rattle.text.specs.Lines.{decimal, field}
-use Rattle.text.specs.Putting.{Put, Room}
+use Rattle.text.specs.Putting.{Put, TextFits}
 
 -- nothing is put
 put-none : (at : ℕ) (l : List ℕ) → Put [] at at l l
@@ -30,22 +30,22 @@ put-then {s} {t} {at} {m} {r} {l} p q =
 pub put-length : {s : List ℕ} {at r : ℕ} {l l₁ : List ℕ} → Put s at r l l₁ → length l₁ ≡ length l
 put-length {s} {at} {r} {l} p = ap length (p .stored) ∙ length-sets l at s
 
--- where there is room for two texts, the first fits, and behind it the second
-pub room-first : {s : List ℕ} (t : List ℕ) {at : ℕ} {l : List ℕ} → Room (s ++ t) at l → Room s at l
-room-first {s} t h = record { fits = omega (arith, length-append s t) }
+-- where two texts fit, the first does, and behind it the second
+pub fits-first : {s : List ℕ} (t : List ℕ) {at : ℕ} {l : List ℕ} → TextFits (s ++ t) at l → TextFits s at l
+fits-first {s} t h = record { fits = omega (arith, length-append s t) }
 
-pub room-second : {s t : List ℕ} {at m : ℕ} {l l₁ : List ℕ} → Room (s ++ t) at l → Put s at m l l₁ → Room t m l₁
-room-second {s} {t} h p = record { fits = omega (arith, length-append s t, p .ends, put-length p) }
+pub fits-second : {s t : List ℕ} {at m : ℕ} {l l₁ : List ℕ} → TextFits (s ++ t) at l → Put s at m l l₁ → TextFits t m l₁
+fits-second {s} {t} h p = record { fits = omega (arith, length-append s t, p .ends, put-length p) }
 
 -- a field is put as a blank and the number behind it
 module _ (n : ℕ) {at : ℕ} {l : List ℕ} where
-  pub field-blank : Room (field n) at l → at < length l
+  pub field-blank : TextFits (field n) at l → at < length l
   unfolding field
   field-blank h = omega (arith, h .fits)
 
-  pub field-room : Room (field n) at l → Room (decimal n) (at + 1) (set l at 32)
+  pub field-fits : TextFits (field n) at l → TextFits (decimal n) (at + 1) (set l at 32)
   unfolding field
-  field-room h = record { fits = omega (arith, h .fits, length-set l at 32) }
+  field-fits h = record { fits = omega (arith, h .fits, length-set l at 32) }
 
   pub field-put : {r : ℕ} {l₁ : List ℕ} → Put (decimal n) (at + 1) r (set l at 32) l₁ → Put (field n) at r l l₁
   unfolding field
@@ -85,8 +85,8 @@ module _ {A : Type 0} (text : A → List ℕ) (all : List A) (at : ℕ) (old : L
         ∙ flatMap-append text (take i all) (getD all i d ∷ drop (suc i) all)
         ∙ (unfold flatMap in refl)
 
-    pub each-room : Room (flatMap text all) at old → Room (text (getD all i d)) m new
-    each-room room = room-first (flatMap text (drop (suc i) all)) (room-second (rw split at room) (p .put))
+    pub each-fits : TextFits (flatMap text all) at old → TextFits (text (getD all i d)) m new
+    each-fits f = fits-first (flatMap text (drop (suc i) all)) (fits-second (rw split at f) (p .put))
 
     one-more : flatMap text (take (i + 1) all) ≡ flatMap text (take i all) ++ text (getD all i d)
     one-more =

@@ -12,6 +12,7 @@ use Rattle.gate.specs.declared.gates.Gate.{Gate}
 use Rattle.gate.specs.declared.gates.Gate.the-variants.{Not, Cnot, Toffoli}
 use Rattle.circuit.specs.declared.reader.CircuitHead.{CircuitHead}
 use Rattle.circuit.specs.Circuits.{Circuit, headOf}
+use Rattle.compile.specs.Compiling.{compileFile}
 
 -- the codes of a text's characters
 abbrev pub ascii : String → List ℕ
@@ -56,3 +57,7 @@ refusedLine n p = line (ascii "refused") (n ∷ p ∷ [])
 unfoldable pub listing : Answer Circuit → List ℕ
 listing (result c) = headLine (headOf c) ++ gateLines (c .gates)
 listing (refused n p) = refusedLine n p
+
+-- the text that is printed for a program file and a grant; no program that compiles needs more than 4,096 sizes and 64,028 bytes
+abbrev pub listingOf : List ℕ → ℕ → List ℕ
+listingOf file grant = listing (compileFile file grant 4096 64028)

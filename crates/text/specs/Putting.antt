@@ -17,8 +17,8 @@ pub record Put (text : List ℕ) (at r : ℕ) (old new : List ℕ) : Type 0 wher
   pub ends : r ≡ at + length text
   pub stored : new ≡ sets old at text
 
--- there is room for the text from index at on
-pub record Room (text : List ℕ) (at : ℕ) (buffer : List ℕ) : Type 0 where
+-- the text fits the buffer from index at on
+pub record TextFits (text : List ℕ) (at : ℕ) (buffer : List ℕ) : Type 0 where
   pub fits : at + length text ≤ length buffer
 
 -- the gate body of a file of k gates that stands in an area
@@ -30,7 +30,7 @@ unfoldable pub listed : Compiled → List ℕ → List ℕ
 listed (Written head) area = headLine head ++ gateLines (gatesIn (bodyIn area (head .gates)))
 listed (Refused why) area = refusedLine (numberOf why) (placeOf why)
 
--- the gates stand in the area, and there is room for what is printed
+-- the gates stand in the area, and what is printed fits the buffer
 pub record Listable (answer : Compiled) (area buffer : List ℕ) : Type 0 where
   pub there : (head : CircuitHead) → answer ≡ Written head → fileLength (head .gates) ≤ length area
-  pub room : Room (listed answer area) 0 buffer
+  pub fits : TextFits (listed answer area) 0 buffer

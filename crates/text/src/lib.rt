@@ -8,12 +8,11 @@ use circuit::layout::FIRST_GATE;
 use compile::Compiled;
 use compile::compile;
 ghost use mathlib.Core.Path.{_≡_};
-ghost use Prim.Native.Nat.{_≤_};
-ghost use lib.ListN.{length, take};
-ghost use Rattle.io.specs.Counts.{Counts};
+ghost use mathlib.Core.List.{List, _++_};
+ghost use Prim.Native.Nat.{ℕ, _≤_};
+ghost use lib.ListN.{length, drop};
 ghost use Rattle.circuit.specs.Format.{fileLength};
-ghost use Rattle.compile.specs.Compiling.{compileFile};
-ghost use Rattle.text.specs.Lines.{listing};
+ghost use Rattle.text.specs.Lines.{listingOf};
 ghost use Rattle.text.specs.Putting.{Put, bodyIn, listed, Listable};
 
 // How many bytes a listing takes at most: 96 for the first line and 20 for each of 8,000 gates.
@@ -51,9 +50,7 @@ fn put_listing(out: &mut [u8], answer: Compiled, area: &[u8]) -> usize
 // Compiles a program file with this grant and puts the listing of the answer at the start of the
 // buffer, whose other bytes stay as they were; how many bytes the listing takes.
 pub fn list(input: &[u8], grant: u64, out: &mut [u8; LISTING_LENGTH]) -> usize
-    ensures { λ r. ⌜ Counts r (now (out .exit)) ⌝ }
-    ensures { λ r. ⌜ take r (now (out .exit)) ≡ listing (compileFile (now (input .entry)) grant 4096 64028) ⌝ }
-    ensures { λ r. ⌜ Put (listing (compileFile (now (input .entry)) grant 4096 64028)) 0 r (now (out .entry)) (now (out .exit)) ⌝ }
+    ensures { λ r. let text : List ℕ = listingOf (now (input .entry)) grant in ⌜ (r ≡ length text) × (now (out .exit) ≡ text ++ drop r (now (out .entry))) ⌝ }
 {
     let mut sizes = [0u16; SIZE_ENTRIES];
     let mut area = [0u8; AREA_LENGTH];

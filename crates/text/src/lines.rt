@@ -7,11 +7,11 @@ ghost use mathlib.Core.List.{flatMap};
 ghost use Rattle.wire.specs.Answers.{numberOf, placeOf};
 ghost use Rattle.circuit.specs.Circuits.{gatesIn};
 ghost use Rattle.text.specs.Lines.{field, line, gateLine, gateLines, headLine, refusedLine};
-ghost use Rattle.text.specs.Putting.{Put, Room};
+ghost use Rattle.text.specs.Putting.{Put, TextFits};
 
 // Puts a word.
 fn put_word(out: &mut [u8], at: usize, word: &[u8]) -> usize
-    requires { ⌜ Room (now word) at (now out) ⌝ }
+    requires { ⌜ TextFits (now word) at (now out) ⌝ }
     ensures { λ r. ⌜ Put (now (word .entry)) at r (now (out .entry)) (now (out .exit)) ⌝ }
 {
     let mut i = 0;
@@ -24,7 +24,7 @@ fn put_word(out: &mut [u8], at: usize, word: &[u8]) -> usize
 
 // Puts one blank and a number in decimal.
 fn put_field(out: &mut [u8], at: usize, n: u64) -> usize
-    requires { ⌜ Room (field n) at (now out) ⌝ }
+    requires { ⌜ TextFits (field n) at (now out) ⌝ }
     ensures { λ r. ⌜ Put (field n) at r (now (out .entry)) (now (out .exit)) ⌝ }
 {
     let mut digits = [0u8; 20];
@@ -35,7 +35,7 @@ fn put_field(out: &mut [u8], at: usize, n: u64) -> usize
 
 // Puts a field for each number.
 fn put_fields(out: &mut [u8], at: usize, numbers: &[u64]) -> usize
-    requires { ⌜ Room (flatMap field (now numbers)) at (now out) ⌝ }
+    requires { ⌜ TextFits (flatMap field (now numbers)) at (now out) ⌝ }
     ensures { λ r. ⌜ Put (flatMap field (now (numbers .entry))) at r (now (out .entry)) (now (out .exit)) ⌝ }
 {
     let mut end = at;
@@ -49,7 +49,7 @@ fn put_fields(out: &mut [u8], at: usize, numbers: &[u64]) -> usize
 
 // Puts a line: a word, a field for each number, and a newline.
 fn put_line(out: &mut [u8], at: usize, word: &[u8], numbers: &[u64]) -> usize
-    requires { ⌜ Room (line (now word) (now numbers)) at (now out) ⌝ }
+    requires { ⌜ TextFits (line (now word) (now numbers)) at (now out) ⌝ }
     ensures { λ r. ⌜ Put (line (now (word .entry)) (now (numbers .entry))) at r (now (out .entry)) (now (out .exit)) ⌝ }
 {
     let after_word = put_word(out, at, word);
@@ -59,7 +59,7 @@ fn put_line(out: &mut [u8], at: usize, word: &[u8], numbers: &[u64]) -> usize
 
 // Puts the line of a gate: its letter, its controls and its target.
 fn put_gate(out: &mut [u8], at: usize, gate: Gate) -> usize
-    requires { ⌜ Room (gateLine gate) at (now out) ⌝ }
+    requires { ⌜ TextFits (gateLine gate) at (now out) ⌝ }
     ensures { λ r. ⌜ Put (gateLine gate) at r (now (out .entry)) (now (out .exit)) ⌝ }
 {
     match gate {
@@ -75,7 +75,7 @@ fn put_gate(out: &mut [u8], at: usize, gate: Gate) -> usize
 
 // Puts a line for each gate of a gate body.
 pub fn put_gates(out: &mut [u8], at: usize, gates: &[u8]) -> usize
-    requires { ⌜ Room (gateLines (gatesIn (now gates))) at (now out) ⌝ }
+    requires { ⌜ TextFits (gateLines (gatesIn (now gates))) at (now out) ⌝ }
     ensures { λ r. ⌜ Put (gateLines (gatesIn (now (gates .entry)))) at r (now (out .entry)) (now (out .exit)) ⌝ }
 {
     let mut end = at;
@@ -89,7 +89,7 @@ pub fn put_gates(out: &mut [u8], at: usize, gates: &[u8]) -> usize
 
 // Puts the first line: how many inputs, outputs, work lines and gates there are.
 pub fn put_head(out: &mut [u8], at: usize, head: CircuitHead) -> usize
-    requires { ⌜ Room (headLine head) at (now out) ⌝ }
+    requires { ⌜ TextFits (headLine head) at (now out) ⌝ }
     ensures { λ r. ⌜ Put (headLine head) at r (now (out .entry)) (now (out .exit)) ⌝ }
 {
     let kinds = [head.inputs as u64, head.outputs as u64, head.work as u64];
@@ -100,7 +100,7 @@ pub fn put_head(out: &mut [u8], at: usize, head: CircuitHead) -> usize
 
 // Puts the line of a refusal: its number and its place.
 pub fn put_refusal(out: &mut [u8], at: usize, why: Refusal) -> usize
-    requires { ⌜ Room (refusedLine (numberOf why) (placeOf why)) at (now out) ⌝ }
+    requires { ⌜ TextFits (refusedLine (numberOf why) (placeOf why)) at (now out) ⌝ }
     ensures { λ r. ⌜ Put (refusedLine (numberOf why) (placeOf why)) at r (now (out .entry)) (now (out .exit)) ⌝ }
 {
     put_line(out, at, b"refused", &[why.number(), why.place()])

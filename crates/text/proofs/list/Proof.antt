@@ -1,11 +1,8 @@
 use Prim.Native.Nat.{ℕ}
 use native.Mathlib.Omega.{arith}
-use mathlib.Core.Path.{sym, ap₂, _∙_}
 use lib.ListN.{length-replicate}
 use borrow.Author.Needs.{needs}
-use Rattle.compile.specs.Compiling.{compileFile}
-use Rattle.text.specs.Lines.{listing}
-use Rattle.text.proofs.CompiledLaws.{can-list, lists, lists-put, lists-counts}
+use Rattle.text.proofs.CompiledLaws.{can-list, lists}
 use Rattle.text.proofs.list.Statement.{statement}
 use Rattle.text.proofs.list.Tie as tie
 
@@ -22,20 +19,14 @@ slice-aggregate-put-listing : tie.Need-slice-aggregate-put-listing
 slice-aggregate-put-listing c = search needs
 
 put-listing-requires : tie.Need-put-listing-requires
-put-listing-requires c κs = can-list (c .before .before .before .before .before .before .before .before .args .input .now) (c .before .before .before .before .before .before .before .before .args .grant) _ _ _ _ _ (c .before .before .before .before .compile .ensures .0) (c .before .before .before .before .compile .ensures .1 .1 .0) (omega arith)
+put-listing-requires c κs = can-list _ _ _ _ _ _ _ (c .before .before .before .before .compile .ensures .0) (c .before .before .before .before .compile .ensures .1 .1 .0) (omega arith)
 
+-- part by part, so that a wrong answer is refused as such
 returns : tie.Need-returns
 returns c =
-    let a = c .before .before .before .before .before .before .before .before .before .args in
     let e = c .before .before .before .before .before .compile .ensures in
-    let p = c .put-listing .ensures in
-    let same = ap₂ (λ (entries room : ℕ). listing (compileFile (a .input .now) (a .grant) entries room)) (length-replicate {A = ℕ} 4096 0) (length-replicate {A = ℕ} 64028 0) in (
-      lists-counts (a .input .now) (a .grant) _ _ _ _ _ (e .0) (e .1 .1 .0) (omega arith) p,
-      (
-        lists (a .input .now) (a .grant) _ _ _ _ _ (e .0) (e .1 .1 .0) (omega arith) p ∙ same,
-        rw (sym same) (lists-put (a .input .now) (a .grant) _ _ _ _ _ (e .0) (e .1 .1 .0) (omega arith) p),
-      ),
-    )
+    let w = lists _ _ _ _ _ _ _ (e .0) (e .1 .1 .0) (omega arith) (length-replicate {A = ℕ} 4096 0) (length-replicate {A = ℕ} 64028 0) (c .put-listing .ensures) in
+    (w .0, w .1)
 
 pub list-spec : {M : Type 1} → statement M
 list-spec =

@@ -2,8 +2,8 @@ use mathlib.Core.List.{_++_}
 use borrow.Author.Needs.{needs}
 use Rattle.circuit.specs.Circuits.{gatesIn}
 use Rattle.text.specs.Lines.{gateLines, headLine}
-use Rattle.text.specs.Putting.{Room, bodyIn, listed}
-use Rattle.text.proofs.PutLaws.{put-then, room-first, room-second}
+use Rattle.text.specs.Putting.{TextFits, bodyIn, listed}
+use Rattle.text.proofs.PutLaws.{put-then, fits-first, fits-second}
 use Rattle.text.proofs.put_listing.Statement.{statement}
 use Rattle.text.proofs.put_listing.Tie as tie
 use Rattle.text.proofs.put_listing.Reads as reads
@@ -25,29 +25,29 @@ claims = (
   put-refusal-reads.Learnt,
 )
 
--- on a result there is room for the first line and the gates
-room : (c : lts.After-answer claims reads.Pre reads.Post) → Room (headLine (c .answer .given .0 .0) ++ gateLines (gatesIn (bodyIn (c .before .before .before .before .args .area .now) (c .answer .given .0 .0 .gates)))) 0 (c .before .before .before .before .args .out .now)
+-- on a result the first line and the gates fit
+fits : (c : lts.After-answer claims reads.Pre reads.Post) → TextFits (headLine (c .answer .given .0 .0) ++ gateLines (gatesIn (bodyIn (c .before .before .before .before .args .area .now) (c .answer .given .0 .0 .gates)))) 0 (c .before .before .before .before .args .out .now)
 unfolding listed
-room c = rw (c .answer .given .1) at (c .before .before .before .before .pre .room)
+fits c = rw (c .answer .given .1) at (c .before .before .before .before .pre .fits)
 
 enum-known-answer : tie.Need-enum-known-answer
 enum-known-answer c = search needs
 
 put-head-requires : tie.Need-put-head-requires
-put-head-requires c κs = room-first (gateLines (gatesIn (bodyIn (c .before .before .before .before .before .before .args .area .now) (c .before .before .answer .given .0 .0 .gates)))) (room (c .before .before))
+put-head-requires c κs = fits-first (gateLines (gatesIn (bodyIn (c .before .before .before .before .before .before .args .area .now) (c .before .before .answer .given .0 .0 .gates)))) (fits (c .before .before))
 
 body-in-requires : tie.Need-body-in-requires
 body-in-requires c κs = c .before .before .before .before .before .before .before .before .before .before .pre .there _ (c .before .before .before .before .before .before .answer .given .1)
 
 put-gates-requires : tie.Need-put-gates-requires
-put-gates-requires c κs = rw (c .body-in .ensures) (room-second (room (c .before .before .before .before .before .before .before)) (c .before .before .before .before .put-head .ensures))
+put-gates-requires c κs = rw (c .body-in .ensures) (fits-second (fits (c .before .before .before .before .before .before .before)) (c .before .before .before .before .put-head .ensures))
 
 enum-known-answer-2 : tie.Need-enum-known-answer-2
 enum-known-answer-2 c = search needs
 
 put-refusal-requires : tie.Need-put-refusal-requires
 unfolding listed
-put-refusal-requires c κs = rw (c .before .before .answer2 .given .1) at (c .before .before .before .before .before .before .pre .room)
+put-refusal-requires c κs = rw (c .before .before .answer2 .given .1) at (c .before .before .before .before .before .before .pre .fits)
 
 same-length : tie.Need-same-length
 same-length c = search needs

@@ -5,7 +5,7 @@ use borrow.Author.Needs.{needs}
 use Rattle.text.specs.Lines.{decimal, field}
 use Rattle.text.specs.Putting.{Put}
 use Rattle.text.proofs.DigitLaws.{decimal-is}
-use Rattle.text.proofs.PutLaws.{field-blank, field-room, field-put, put-length}
+use Rattle.text.proofs.PutLaws.{field-blank, field-fits, field-put, put-length}
 use Rattle.text.proofs.lines.put_field.Statement.{statement}
 use Rattle.text.proofs.lines.put_field.Tie as tie
 use Rattle.text.proofs.lines.put_field.Reads as reads
@@ -39,7 +39,7 @@ slice-aggregate-put-word : tie.Need-slice-aggregate-put-word
 slice-aggregate-put-word c = search needs
 
 put-word-requires : tie.Need-put-word-requires
-put-word-requires c κs = rw (spelt (c .before .before)) (field-room (c .before .before .before .before .before .args .n) (c .before .before .before .before .before .pre))
+put-word-requires c κs = rw (spelt (c .before .before)) (field-fits (c .before .before .before .before .before .args .n) (c .before .before .before .before .before .pre))
 
 same-length : tie.Need-same-length
 same-length c = put-length (put c)

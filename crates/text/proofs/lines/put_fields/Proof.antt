@@ -2,7 +2,7 @@ use Prim.Native.Nat.{_-_}
 use lib.ListN.{length}
 use borrow.Author.Needs.{needs}
 use Rattle.text.specs.Lines.{field}
-use Rattle.text.proofs.PutLaws.{EachPut, each-start, each-room, each-next, each-all, put-length}
+use Rattle.text.proofs.PutLaws.{EachPut, each-start, each-fits, each-next, each-all, put-length}
 use Rattle.text.proofs.lines.put_fields.Statement.{statement}
 use Rattle.text.proofs.lines.put_fields.Tie as tie
 
@@ -22,7 +22,7 @@ shared-slice-read-put-field : tie.Need-shared-slice-read-put-field Inv-loop μ-l
 shared-slice-read-put-field c = search needs
 
 put-field-requires : tie.Need-put-field-requires Inv-loop μ-loop
-put-field-requires c κs = each-room _ _ _ _ 0 (c .before .before .before .loop .inv) (c .before .before .loop-test .taken) (c .before .before .before .before .before .before .pre)
+put-field-requires c κs = each-fits _ _ _ _ 0 (c .before .before .before .loop .inv) (c .before .before .loop-test .taken) (c .before .before .before .before .before .before .pre)
 
 add-i : tie.Need-add-i Inv-loop μ-loop
 add-i c = search needs

@@ -7,7 +7,7 @@ use Rattle.gate.specs.declared.gates.Gate.the-variants.{Not}
 use Rattle.circuit.proofs.GateBodyLaws.{gates-count, gates-at}
 use Rattle.circuit.specs.Circuits.{gatesIn}
 use Rattle.text.specs.Lines.{gateLine}
-use Rattle.text.proofs.PutLaws.{EachPut, each-start, each-room, each-next, each-all, put-length}
+use Rattle.text.proofs.PutLaws.{EachPut, each-start, each-fits, each-next, each-all, put-length}
 use Rattle.text.proofs.lines.put_gates.Statement.{statement}
 use Rattle.text.proofs.lines.put_gates.Tie as tie
 use Rattle.text.proofs.lines.put_gates.Reads as reads
@@ -38,7 +38,7 @@ gate-at-requires : tie.Need-gate-at-requires Inv-loop μ-loop
 gate-at-requires c κs = omega (arith, c .before .loop-test .taken)
 
 put-gate-requires : tie.Need-put-gate-requires Inv-loop μ-loop
-put-gate-requires c κs = rw (gate c) (each-room _ _ _ _ (Not 0) (c .before .before .before .loop .inv) (within (c .before .before)) (c .before .before .before .before .before .before .pre))
+put-gate-requires c κs = rw (gate c) (each-fits _ _ _ _ (Not 0) (c .before .before .before .loop .inv) (within (c .before .before)) (c .before .before .before .before .before .before .pre))
 
 add-k : tie.Need-add-k Inv-loop μ-loop
 add-k c = search needs

@@ -3,7 +3,7 @@ use mathlib.Core.List.{List, [], _∷_, _++_, flatMap}
 use borrow.Author.Needs.{needs}
 use Rattle.circuit.specs.declared.reader.CircuitHead.{CircuitHead}
 use Rattle.text.specs.Lines.{ascii, field, line, headLine}
-use Rattle.text.proofs.PutLaws.{put-then, room-first, room-second}
+use Rattle.text.proofs.PutLaws.{put-then, fits-first, fits-second}
 use Rattle.text.proofs.lines.put_head.Statement.{statement}
 use Rattle.text.proofs.lines.put_head.Tie as tie
 
@@ -19,14 +19,14 @@ slice-aggregate-put-word c = search needs
 
 put-word-requires : tie.Need-put-word-requires
 unfolding headLine
-put-word-requires c κs = room-first (kinds (c .before .before .before .args .head) ++ gates (c .before .before .before .args .head)) (c .before .before .before .pre)
+put-word-requires c κs = fits-first (kinds (c .before .before .before .args .head) ++ gates (c .before .before .before .args .head)) (c .before .before .before .pre)
 
 slice-aggregate-put-fields : tie.Need-slice-aggregate-put-fields
 slice-aggregate-put-fields c = search needs
 
 put-fields-requires : tie.Need-put-fields-requires
 unfolding headLine
-put-fields-requires c κs = room-first (gates (c .before .before .before .before .before .before .before .before .args .head)) (room-second (c .before .before .before .before .before .before .before .before .pre) (c .before .before .before .before .put-word .ensures))
+put-fields-requires c κs = fits-first (gates (c .before .before .before .before .before .before .before .before .args .head)) (fits-second (c .before .before .before .before .before .before .before .before .pre) (c .before .before .before .before .put-word .ensures))
 
 slice-aggregate-put-line : tie.Need-slice-aggregate-put-line
 slice-aggregate-put-line c = search needs
@@ -36,7 +36,7 @@ slice-aggregate-put-line-2 c = search needs
 
 put-line-requires : tie.Need-put-line-requires
 unfolding headLine
-put-line-requires c κs = room-second (room-second (c .before .before .before .before .before .before .before .before .before .before .before .before .before .before .pre) (c .before .before .before .before .before .before .before .before .before .before .put-word .ensures)) (c .before .before .before .before .before .put-fields .ensures)
+put-line-requires c κs = fits-second (fits-second (c .before .before .before .before .before .before .before .before .before .before .before .before .before .before .pre) (c .before .before .before .before .before .before .before .before .before .before .put-word .ensures)) (c .before .before .before .before .before .put-fields .ensures)
 
 same-length : tie.Need-same-length
 same-length c = search needs

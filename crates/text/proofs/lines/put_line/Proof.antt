@@ -1,24 +1,24 @@
 use mathlib.Core.List.{_++_, flatMap}
 use borrow.Author.Needs.{needs}
 use Rattle.text.specs.Lines.{ascii, field, line}
-use Rattle.text.proofs.PutLaws.{put-then, room-first, room-second}
+use Rattle.text.proofs.PutLaws.{put-then, fits-first, fits-second}
 use Rattle.text.proofs.lines.put_line.Statement.{statement}
 use Rattle.text.proofs.lines.put_line.Tie as tie
 
 put-word-requires : tie.Need-put-word-requires
 unfolding line
-put-word-requires c κs = room-first (flatMap field (c .before .before .before .before .args .numbers .now) ++ ascii "\n") (c .before .before .before .before .pre)
+put-word-requires c κs = fits-first (flatMap field (c .before .before .before .before .args .numbers .now) ++ ascii "\n") (c .before .before .before .before .pre)
 
 put-fields-requires : tie.Need-put-fields-requires
 unfolding line
-put-fields-requires c κs = room-first (ascii "\n") (room-second (c .before .before .before .before .before .before .before .before .pre) (c .before .before .before .put-word .ensures))
+put-fields-requires c κs = fits-first (ascii "\n") (fits-second (c .before .before .before .before .before .before .before .before .pre) (c .before .before .before .put-word .ensures))
 
 slice-aggregate-put-word : tie.Need-slice-aggregate-put-word
 slice-aggregate-put-word c = search needs
 
 put-word-requires-2 : tie.Need-put-word-requires-2
 unfolding line
-put-word-requires-2 c κs = record { fits = (room-second (room-second (c .before .before .before .before .before .before .before .before .before .before .before .before .before .pre) (c .before .before .before .before .before .before .before .before .put-word .ensures)) (c .before .before .before .before .put-fields .ensures)) .fits }
+put-word-requires-2 c κs = record { fits = (fits-second (fits-second (c .before .before .before .before .before .before .before .before .before .before .before .before .before .pre) (c .before .before .before .before .before .before .before .before .put-word .ensures)) (c .before .before .before .before .put-fields .ensures)) .fits }
 
 same-length : tie.Need-same-length
 same-length c = search needs
