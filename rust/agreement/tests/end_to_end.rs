@@ -1,5 +1,8 @@
 //! From a program file to the lines after a run, through the archive alone: compiled, read back and
 //! run, and held to what evaluation answers, after the shares of the first j outputs for every j.
+//! And what the program `end_to_end_case` wrote of such runs, held to the model.
+
+use std::fs;
 
 use agreement::compare::run::after as run;
 use agreement::drawn::{self, read, starts};
@@ -15,6 +18,9 @@ use model::construct;
 const GATES_LENGTH: usize = 18;
 const GATES_START: usize = 28;
 const GATE_LENGTH: usize = 8;
+
+/// What the program `end_to_end_case`, which calls `compile_and_run`, wrote.
+const CASE: &str = concat!(env!("CARGO_MANIFEST_DIR"), "/../../crates/end_to_end_case/stdout");
 
 /// A program, the file that the archive compiled it to, and the circuit as it reads back.
 struct Compiled {
@@ -196,6 +202,42 @@ fn the_whole_case_from_two_starts() {
     let whole = compiled(&mut random, shaped::whole_case());
     assert_eq!(run(&whole.file, &[1, 1, 1, 0, 0]), [1, 1, 0, 0, 0]);
     assert_eq!(run(&whole.file, &[1, 1, 1, 1, 0]), [1, 1, 1, 1, 0]);
+}
+
+/// The lines of the AND of three inputs as digits: inputs, target and work lines.
+fn shown(lines: &[u8]) -> String {
+    let digits = |lines: &[u8]| lines.iter().map(u8::to_string).collect::<String>();
+    [&lines[..3], &lines[3..4], &lines[4..]].map(digits).join(" ")
+}
+
+/// A call on the AND of three inputs as the model has it: the lines before, the answer, the lines
+/// after.
+fn compiled_and_run(start: &[u8]) -> String {
+    let file = shaped::and_of_three().bytes();
+    let (mut sizes, mut area, mut lines) = ([0; 5], [0; 100], start.to_vec());
+    let answer = model::compile::compile(&file, 1_024, &mut sizes, &mut area)
+        .and_then(|length| model::run::forwards(&area[..length], &mut lines));
+    let answer = match answer {
+        Ok(()) => "done".to_string(),
+        Err(refusal) => format!("refused {} {}", refusal.number, refusal.place),
+    };
+    format!("before {}\n{answer}\nafter  {}\n", shown(start), shown(&lines))
+}
+
+/// Starts with the work lines zero and not, and one with a line missing.
+#[test]
+fn the_case_of_proved_code() {
+    let starts: [&[u8]; 6] = [
+        &[1, 1, 1, 0, 0, 0, 0, 0],
+        &[1, 1, 1, 1, 0, 0, 0, 0],
+        &[1, 0, 1, 1, 0, 0, 0, 0],
+        &[1, 1, 1, 0, 0, 1, 0, 0],
+        &[0, 0, 0, 0, 1, 0, 0, 1],
+        &[1, 1, 1, 0, 0, 0, 0],
+    ];
+    let expected: String = starts.into_iter().map(compiled_and_run).collect();
+    let text = fs::read_to_string(CASE).expect(CASE);
+    assert_eq!(text, expected, "the proved code, then the model");
 }
 
 /// As wide, as long and as deep as a file can be: nobody can try all the starts.
