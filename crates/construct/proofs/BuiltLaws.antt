@@ -25,6 +25,7 @@ pub record BuiltFrom (e : Expr) (t : ℕ) (p r : Progress) (old new : List ℕ) 
   pub stored : Stored (buildFrom e t (p .free)) (p .gates) (r .gates) old new
   pub free-to : r .free ≡ p .free + held e
 
+-- that is, as the construction builds it
 module _ {e : Expr} {t : ℕ} {p r : Progress} {old new : List ℕ} where
   pub built-from : BuiltInto e t p r old new → BuiltFrom e t p r old new
   built-from b =
@@ -33,45 +34,45 @@ module _ {e : Expr} {t : ℕ} {p r : Progress} {old new : List ℕ} where
       let low : lowestFree q ≡ p .free = start-free (p .free) in
       record { stored = rw (reached-gates e t h low) at (b .stores q h low); free-to = sym (b .leaves q h low) ∙ reached-free e t h low }
 
-  built-into : BuiltFrom e t p r old new → BuiltInto e t p r old new
+  pub built-into : BuiltFrom e t p r old new → BuiltInto e t p r old new
   built-into b = record {
     stores = λ q h low. rw (reached-gates e t h low) (b .stored);
     leaves = λ q h low. reached-free e t h low ∙ sym (b .free-to);
   }
 
 -- a tree's gates, from those of its operands
-from-zero : (t : ℕ) (p : Progress) (l : List ℕ) → BuiltFrom ZERO t p p l l
+pub built-zero : (t : ℕ) (p : Progress) (l : List ℕ) → BuiltFrom ZERO t p p l l
 unfolding buildFrom held
-from-zero t p l = record { stored = stored-none (p .gates) l; free-to = sym (add-zero (p .free)) }
+built-zero t p l = record { stored = stored-none (p .gates) l; free-to = sym (add-zero (p .free)) }
 
-from-one : {t : ℕ} {p q : Progress} {l l₁ : List ℕ} → Appended (Not t) p q l l₁ → BuiltFrom ONE t p q l l₁
+pub built-one : {t : ℕ} {p q : Progress} {l l₁ : List ℕ} → Appended (Not t) p q l l₁ → BuiltFrom ONE t p q l l₁
 unfolding buildFrom held
-from-one {p = p} w = record { stored = w .stored; free-to = w .free-to ∙ sym (add-zero (p .free)) }
+built-one {p = p} w = record { stored = w .stored; free-to = w .free-to ∙ sym (add-zero (p .free)) }
 
-from-input : {j t : ℕ} {p q : Progress} {l l₁ : List ℕ} → Appended (Cnot j t) p q l l₁ → BuiltFrom (INPUT j) t p q l l₁
+pub built-input : {j t : ℕ} {p q : Progress} {l l₁ : List ℕ} → Appended (Cnot j t) p q l l₁ → BuiltFrom (INPUT j) t p q l l₁
 unfolding buildFrom held
-from-input {p = p} w = record { stored = w .stored; free-to = w .free-to ∙ sym (add-zero (p .free)) }
+built-input {p = p} w = record { stored = w .stored; free-to = w .free-to ∙ sym (add-zero (p .free)) }
 
-from-not : {a : Expr} {t : ℕ} {p q r : Progress} {l l₁ l₂ : List ℕ}
+pub built-not : {a : Expr} {t : ℕ} {p q r : Progress} {l l₁ l₂ : List ℕ}
     → Appended (Not t) p q l l₁ → BuiltFrom a t q r l₁ l₂ → BuiltFrom (NOT a) t p r l l₂
 unfolding buildFrom held
-from-not {a} {t} w b =
+built-not {a} {t} w b =
     record {
       stored = stored-then (w .stored) (rw (w .free-to) at (b .stored));
       free-to = b .free-to ∙ ap (λ (n : ℕ). n + held a) (w .free-to);
     }
 
-from-xor : {a b : Expr} {t : ℕ} {p q r : Progress} {l l₁ l₂ : List ℕ}
+pub built-xor : {a b : Expr} {t : ℕ} {p q r : Progress} {l l₁ l₂ : List ℕ}
     → BuiltFrom a t p q l l₁ → BuiltFrom b t q r l₁ l₂ → BuiltFrom (XOR a b) t p r l l₂
 unfolding buildFrom held
-from-xor v w = record { stored = stored-then (v .stored) (rw (v .free-to) at (w .stored)); free-to = omega (arith, v .free-to, w .free-to) }
+built-xor v w = record { stored = stored-then (v .stored) (rw (v .free-to) at (w .stored)); free-to = omega (arith, v .free-to, w .free-to) }
 
-from-and : {a b : Expr} {t f′ g′ : ℕ} {p q r z : Progress} {l l₁ l₂ l₃ : List ℕ}
+pub built-and : {a b : Expr} {t f′ g′ : ℕ} {p q r z : Progress} {l l₁ l₂ l₃ : List ℕ}
     → f′ ≡ p .free + 1 → BuiltFrom a (p .free) (record { gates = p .gates; free = f′ }) q l l₁
     → g′ ≡ q .free + 1 → BuiltFrom b (q .free) (record { gates = q .gates; free = g′ }) r l₁ l₂
     → Appended (Toffoli (p .free) (q .free) t) r z l₂ l₃ → BuiltFrom (AND a b) t p z l l₃
 unfolding buildFrom held second
-from-and {a} {b} {t} {f′} {g′} {p} {q} {r} {z} {l} {l₁} {l₂} {l₃} u v u′ w x =
+built-and {a} {b} {t} {f′} {g′} {p} {q} {r} {z} {l} {l₁} {l₂} {l₃} u v u′ w x =
     let f : ℕ = p .free in
     let g : ℕ = second f a in
     let taken : q .free ≡ g = v .free-to ∙ ap (λ (n : ℕ). n + held a) u in
@@ -82,29 +83,6 @@ from-and {a} {b} {t} {f′} {g′} {p} {q} {r} {z} {l} {l₁} {l₂} {l₃} u v 
       stored = stored-then one (stored-then two three);
       free-to = omega (arith, x .free-to, w .free-to, u′, taken);
     }
-
-pub built-zero : (t : ℕ) (p : Progress) (l : List ℕ) → BuiltInto ZERO t p p l l
-built-zero t p l = built-into (from-zero t p l)
-
-pub built-one : {t : ℕ} {p q : Progress} {l l₁ : List ℕ} → Appended (Not t) p q l l₁ → BuiltInto ONE t p q l l₁
-built-one w = built-into (from-one w)
-
-pub built-input : {j t : ℕ} {p q : Progress} {l l₁ : List ℕ} → Appended (Cnot j t) p q l l₁ → BuiltInto (INPUT j) t p q l l₁
-built-input w = built-into (from-input w)
-
-pub built-not : {a : Expr} {t : ℕ} {p q r : Progress} {l l₁ l₂ : List ℕ}
-    → Appended (Not t) p q l l₁ → BuiltInto a t q r l₁ l₂ → BuiltInto (NOT a) t p r l l₂
-built-not w b = built-into (from-not w (built-from b))
-
-pub built-xor : {a b : Expr} {t : ℕ} {p q r : Progress} {l l₁ l₂ : List ℕ}
-    → BuiltInto a t p q l l₁ → BuiltInto b t q r l₁ l₂ → BuiltInto (XOR a b) t p r l l₂
-built-xor v w = built-into (from-xor (built-from v) (built-from w))
-
-pub built-and : {a b : Expr} {t f′ g′ : ℕ} {p q r z : Progress} {l l₁ l₂ l₃ : List ℕ}
-    → f′ ≡ p .free + 1 → BuiltInto a (p .free) (record { gates = p .gates; free = f′ }) q l l₁
-    → g′ ≡ q .free + 1 → BuiltInto b (q .free) (record { gates = q .gates; free = g′ }) r l₁ l₂
-    → Appended (Toffoli (p .free) (q .free) t) r z l₂ l₃ → BuiltInto (AND a b) t p z l l₃
-built-and u v u′ w x = built-into (from-and u (built-from v) u′ (built-from w) x)
 
 -- the room for node i is enough for a part of it that starts later and ends no later
 room-part : {nodes : List ℕ} {i t : ℕ} {p : Progress} {l : List ℕ} (a t′ : ℕ) (q : Progress) (l′ : List ℕ)

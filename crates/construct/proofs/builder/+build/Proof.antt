@@ -6,7 +6,7 @@ use Rattle.program.specs.Exprs.{ZERO, ONE, INPUT, NOT, XOR, AND}
 use Rattle.program.specs.Trees.{treeOf}
 use Rattle.construct.specs.Tables.{treeIn}
 use Rattle.construct.proofs.OperandLaws.{Unary, Binary, node-there, tree-is, is-not, is-xor, is-and}
-use Rattle.construct.proofs.BuiltLaws.{built-from, built-zero, built-one, built-input, built-not, built-xor, built-and, room-one, room-input, room-not, room-under, room-xor-first, room-xor-second, line-first, room-and-first, line-second, room-and-second, room-toffoli}
+use Rattle.construct.proofs.BuiltLaws.{built-from, built-into, built-zero, built-one, built-input, built-not, built-xor, built-and, room-one, room-input, room-not, room-under, room-xor-first, room-xor-second, line-first, room-and-first, line-second, room-and-second, room-toffoli}
 use borrow.Author.Needs.{needs}
 use Prim.Native.Nat.{ℕ, _<_}
 use borrow.Fn.Kinds.{In}
@@ -161,37 +161,37 @@ module _ (t : ℕ) where
   append-requires-4 c κs = room-toffoli (c .before .before .before .before .before .before .before .before .before .before .before .before .before .before .before .before .before .pre .1) (as-and (c .before .before .before .before .before .before .before .before .before .before .before .before)) (c .before .before .before .before .before .before .before .before .before .before .take-line .ensures) (c .before .before .before .before .before .before .before .before .build4 .ensures) (c .before .before .before .before .before .take-line2 .ensures) (c .before .before .before .build5 .ensures) (c .before .before .before .build5 .kept .1 .1 .1 .1 .1 .0 ∙ c .before .before .before .before .before .before .before .before .build4 .kept .1 .1 .1 .1 .1 .0)
 
   returns : build-lts.Need-returns (claims t) (build-at t) build.Post
-  returns c = rw (as-zero c) (built-zero _ _ _)
+  returns c = rw (as-zero c) (built-into (built-zero _ _ _))
 
   same-length : build-lts.Need-same-length (claims t) (build-at t) build.Post
   same-length c = search needs
 
   returns-2 : build-lts.Need-returns-2 (claims t) (build-at t) build.Post
-  returns-2 c = rw (as-one (c .before .before .before .before)) (built-one (c .before .before .append .ensures))
+  returns-2 c = rw (as-one (c .before .before .before .before)) (built-into (built-one (c .before .before .append .ensures)))
 
   same-length-2 : build-lts.Need-same-length-2 (claims t) (build-at t) build.Post
   same-length-2 c = search needs
 
   returns-3 : build-lts.Need-returns-3 (claims t) (build-at t) build.Post
-  returns-3 c = rw (as-input (c .before .before .before .before .before)) (built-input (c .before .before .append2 .ensures))
+  returns-3 c = rw (as-input (c .before .before .before .before .before)) (built-into (built-input (c .before .before .append2 .ensures)))
 
   same-length-3 : build-lts.Need-same-length-3 (claims t) (build-at t) build.Post
   same-length-3 c = search needs
 
   returns-4 : build-lts.Need-returns-4 (claims t) (build-at t) build.Post
-  returns-4 c = rw (as-not (c .before .before .before .before .before .before .before .before .before) .is) (built-not (c .before .before .before .before .before .before .append3 .ensures) (c .before .before .build .ensures))
+  returns-4 c = rw (as-not (c .before .before .before .before .before .before .before .before .before) .is) (built-into (built-not (c .before .before .before .before .before .before .append3 .ensures) (built-from (c .before .before .build .ensures))))
 
   same-length-4 : build-lts.Need-same-length-4 (claims t) (build-at t) build.Post
   same-length-4 c = search needs
 
   returns-5 : build-lts.Need-returns-5 (claims t) (build-at t) build.Post
-  returns-5 c = rw (as-xor (c .before .before .before .before .before .before .before .before .before) .is) (built-xor (c .before .before .before .before .before .before .build2 .ensures) (c .before .before .build3 .ensures))
+  returns-5 c = rw (as-xor (c .before .before .before .before .before .before .before .before .before) .is) (built-into (built-xor (built-from (c .before .before .before .before .before .before .build2 .ensures)) (built-from (c .before .before .build3 .ensures))))
 
   same-length-5 : build-lts.Need-same-length-5 (claims t) (build-at t) build.Post
   same-length-5 c = search needs
 
   returns-6 : build-lts.Need-returns-6 (claims t) (build-at t) build.Post
-  returns-6 c = rw (as-and (c .before .before .before .before .before .before .before .before .before .before .before .before .before .before .before) .is) (built-and (c .before .before .before .before .before .before .before .before .before .before .before .before .before .take-line .ensures) (c .before .before .before .before .before .before .before .before .before .before .before .build4 .ensures) (c .before .before .before .before .before .before .before .before .take-line2 .ensures) (c .before .before .before .before .before .before .build5 .ensures) (c .before .before .append4 .ensures))
+  returns-6 c = rw (as-and (c .before .before .before .before .before .before .before .before .before .before .before .before .before .before .before) .is) (built-into (built-and (c .before .before .before .before .before .before .before .before .before .before .before .before .before .take-line .ensures) (built-from (c .before .before .before .before .before .before .before .before .before .before .before .build4 .ensures)) (c .before .before .before .before .before .before .before .before .take-line2 .ensures) (built-from (c .before .before .before .before .before .before .build5 .ensures)) (c .before .before .append4 .ensures)))
 
 pub +build-spec : {M : Type 1} → statement M
 +build-spec =
