@@ -18,8 +18,8 @@ use Rattle.program.specs.Programs.{Program, outputTree}
 use Rattle.wire.specs.Arity.{arityFits}
 use Rattle.program.specs.Reading.{lengthsFit, outputFits, programOf, readBodies, readProgram}
 use Rattle.program.specs.Trees.{treeOf, treesFrom, trees}
-use Rattle.construction.specs.Pools.{isAmong, allFree, lowestFree, takeLine, release}
-use Rattle.construction.specs.Construction.{build, share, shares, allShares, circuit, linesNeeded}
+use Rattle.construction.specs.Pools.{isAmong, allFree, lowestFree, takeLine, freeAll}
+use Rattle.construction.specs.Construction.{build, share, shares, allShares, circuitGates, linesNeeded}
 use Rattle.construction.specs.Counting.{gatesShown}
 use Rattle.compile.specs.Compiling.{outputTrees, programCircuit, compileProgram, readWithSizes, compileFile, compileOf}
 use Rattle.sizing.specs.Sizing.{nodeSizes}
@@ -31,7 +31,7 @@ halfAdder = record { inputs = 2; nodes = Input 0 ∷ Input 1 ∷ And 0 1 ∷ Xor
 -- its circuit has the shares of both outputs, and the work lines of the first
 pub two-outputs : programCircuit halfAdder
     ≡ record { inputs = 2; outputs = 2; work = 2; gates = Cnot 0 4 ∷ Cnot 1 5 ∷ Toffoli 4 5 2 ∷ Cnot 1 5 ∷ Cnot 0 4 ∷ Cnot 0 3 ∷ Cnot 1 3 ∷ [] }
-unfolding programCircuit outputTrees outputTree tabulateFrom trees treesFrom treeOf circuit allShares shares share build lowestFrom isAmong allFree lowestFree takeLine release linesNeeded uncompute without target
+unfolding programCircuit outputTrees outputTree tabulateFrom trees treesFrom treeOf circuitGates allShares shares share build lowestFrom isAmong allFree lowestFree takeLine freeAll linesNeeded uncompute without target
 two-outputs = refl
 
 -- the file of the program ONE: its table of contents, no input and one output, one node, the output's node
@@ -47,7 +47,7 @@ oneFile =
 
 -- the area behind its circuit file, which has 36 bytes, is as it was
 pub area-behind : drop 34 (compileOf oneFile 0 (9 ∷ []) (replicate 38 9) .area) ≡ 0 ∷ 0 ∷ 9 ∷ 9 ∷ []
-unfolding compileOf compileFile readWithSizes compileProgram gatesShown readProgram readBodies tableFits entriesFit entriesFrom lengthsFit arityFits nodeFits operandsFit outputFits programOf nodeAt lowestFrom size circuitFile openingBytes contentsBytes entriesBytes gatesBytes gateBytes programCircuit outputTrees outputTree tabulateFrom trees treesFrom treeOf circuit allShares shares share build isAmong allFree lowestFree takeLine release linesNeeded uncompute without target
+unfolding compileOf compileFile readWithSizes compileProgram gatesShown readProgram readBodies tableFits entriesFit entriesFrom lengthsFit arityFits nodeFits operandsFit outputFits programOf nodeAt lowestFrom size circuitFile openingBytes contentsBytes entriesBytes gatesBytes gateBytes programCircuit outputTrees outputTree tabulateFrom trees treesFrom treeOf circuitGates allShares shares share build isAmong allFree lowestFree takeLine freeAll linesNeeded uncompute without target
 area-behind = refl
 
 -- a size list that is too short is as it was

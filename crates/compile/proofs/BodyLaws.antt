@@ -20,7 +20,7 @@ use Rattle.program.specs.Trees.{trees}
 use Rattle.program.specs.Steps.{TableOk}
 use Rattle.program.proofs.AcceptedLaws.{Accepted, same-nodes, outputs-length, output-is, table-ok}
 use Rattle.program.proofs.ReadingLaws.{nodes-counted, outputs-counted}
-use Rattle.construction.specs.Construction.{circuit, linesNeeded}
+use Rattle.construction.specs.Construction.{circuitGates, linesNeeded}
 use Rattle.construction.specs.Counting.{gatesShown}
 use Rattle.construction.specs.Steps.{sharesCount}
 use Rattle.construction.proofs.CountLaws.{circuit-length}
@@ -91,7 +91,7 @@ module _ (f : List ℕ) (a : Accepted f) where
       → programCircuit (programOf f) .work ≤ 1024 → fileLength (length (programCircuit (programOf f) .gates)) ≤ length area → InRange h × CircuitRoom (bodyOf f 1) (bodyOf f 2) (h .inputs) area
   unfolding programCircuit
   fitting h area n some most w g lines room =
-      let length-is : length (circuit (programOf f .inputs) (outputTrees (programOf f))) ≡ sharesCount (outputTrees (programOf f)) = circuit-length (programOf f .inputs) (outputTrees (programOf f)) in (
+      let length-is : length (circuitGates (programOf f .inputs) (outputTrees (programOf f))) ≡ sharesCount (outputTrees (programOf f)) = circuit-length (programOf f .inputs) (outputTrees (programOf f)) in (
         record { inputs-most = omega (arith, a .inputs-most); outputs-some = some; outputs-most = most; work-most = w; gates-most = g },
         record {
           ordered = rw n nodes-ordered;

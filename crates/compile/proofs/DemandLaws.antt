@@ -94,12 +94,12 @@ module _ (f : List ℕ) (a : program.Accepted f) (start : List ℕ) (s : Start (
   run-is g e = record {
     lines = run (c .gates) start;
     runs = runs g e;
-    opens = opens;
-    holds = holds;
+    opens = λ j h. opens j (omega arith);
+    holds = λ j h. holds j (omega arith);
     follows = λ j h. restores .follows start j (omega (arith, trees-length p));
     all = all;
     ends = ap (λ (gs : List Gate). run gs start) all;
-    evaluates = evaluates;
+    evaluates = λ k h. evaluates k (omega arith);
   }
 
 -- demand 3

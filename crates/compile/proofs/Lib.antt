@@ -3,6 +3,7 @@ pub mod AcceptedLaws
 pub mod BodyLaws
 pub mod CompileLaws
 pub mod DemandLaws
+pub mod DemandSaysLaws
 pub mod OutputLaws
 pub mod ProgramLaws
 pub mod RunLaws

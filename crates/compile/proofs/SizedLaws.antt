@@ -31,7 +31,7 @@ use Rattle.program.specs.Reading.{outputAt, programOf}
 use Rattle.program.specs.Trees.{trees}
 use Rattle.program.proofs.AcceptedLaws.{Accepted, accepted, inputs-is, nodes-length, outputs-length, same-nodes}
 use Rattle.program.proofs.ReadingLaws.{nodes-counted}
-use Rattle.construction.specs.Construction.{circuit}
+use Rattle.construction.specs.Construction.{circuitGates}
 use Rattle.construction.specs.Counting.{gatesShown}
 use Rattle.construction.proofs.CountLaws.{shown-within, shown-over}
 use Rattle.construct.specs.declared.counter.Needs.{Needs}
@@ -166,12 +166,12 @@ module _ {f : List ℕ} {h : Head} {sizes : List ℕ} (l : Listed f h sizes) whe
                 (ap₂ (λ (g w : ℕ). record { gates = g; lines = w }) gates-are (lines-counted f accepts n))
 
             pub circuit-written : {after : List ℕ}
-                → after ≡ putGates (sets area 0 (openingBytes (record { inputs = h .inputs; outputs = h .outputs; work = needs .lines; gates = needs .gates }))) 0 (circuit (h .inputs) (treesIn (bodyOf f 1) (bodyOf f 2)))
+                → after ≡ putGates (sets area 0 (openingBytes (record { inputs = h .inputs; outputs = h .outputs; work = needs .lines; gates = needs .gates }))) 0 (circuitGates (h .inputs) (treesIn (bodyOf f 1) (bodyOf f 2)))
                 → Outcome (programOf f) grant area (result (record { inputs = h .inputs; outputs = h .outputs; work = needs .lines; gates = needs .gates })) after
             unfolding programCircuit
             circuit-written {after} w =
                 let o = outcome (programOf f) grant area (result c) (fits (programOf f) grant (length area) small allowed work-granted (omega (arith, gates-are, few-gates)) room) in
-                let gates : circuit (h .inputs) (treesIn (bodyOf f 1) (bodyOf f 2)) ≡ c .gates = ap₂ circuit (ap (λ (t : Head). t .inputs) (l .numbers)) (trees-same f accepts) in
+                let gates : circuitGates (h .inputs) (treesIn (bodyOf f 1) (bodyOf f 2)) ≡ c .gates = ap₂ circuitGates (ap (λ (t : Head). t .inputs) (l .numbers)) (trees-same f accepts) in
                 let head : CircuitHead = record { inputs = h .inputs; outputs = h .outputs; work = needs .lines; gates = needs .gates } in
                 let written : after ≡ circuitFile c ++ drop (length (circuitFile c)) area =
                 file-written area c room refl (w ∙ ap₂ (λ (t : CircuitHead) (gs : List Gate). putGates (sets area 0 (openingBytes t)) 0 gs) head-is gates) in

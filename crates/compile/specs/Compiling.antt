@@ -13,7 +13,7 @@ use Rattle.circuit.specs.Format.{circuitFile, areaAfter}
 use Rattle.program.specs.Exprs.{Expr, size}
 use Rattle.program.specs.Programs.{Program, outputTree}
 use Rattle.program.specs.Reading.{readProgram}
-use Rattle.construction.specs.Construction.{circuit, linesNeeded}
+use Rattle.construction.specs.Construction.{circuitGates, linesNeeded}
 use Rattle.construction.specs.Counting.{gatesShown}
 use Rattle.compile.specs.declared.Compiled.{Compiled}
 use Rattle.compile.specs.declared.Compiled.the-variants.{Written, Refused}
@@ -30,7 +30,7 @@ programCircuit p =
       inputs = p .inputs;
       outputs = length (p .outputs);
       work = linesNeeded (p .inputs) (outputTrees p);
-      gates = circuit (p .inputs) (outputTrees p);
+      gates = circuitGates (p .inputs) (outputTrees p);
     }
 
 -- compiling a program with a grant (01), the number of work lines allowed, into an area of so many bytes

@@ -1,20 +1,22 @@
 -- Demand 3 (01): one claim about every run of a compiled file, over the services' own definitions.
 use Prim.Native.Nat.{ℕ, _+_, _≤_, _<_}
 use mathlib.Core.Path.{_≡_}
+use mathlib.Core.Bool.{true}
 use mathlib.Core.List.{List}
 use lib.ListN.{length, take}
 use Rattle.wire.specs.Answers.{Answer, result}
+use Rattle.wire.specs.Bits.{bitsFit}
 use Rattle.gate.specs.declared.gates.Gate.{Gate}
 use Rattle.gate.specs.Running.{run}
 use Rattle.circuit.specs.declared.reader.CircuitHead.{CircuitHead}
-use Rattle.circuit.specs.Circuits.{Circuit, lineCount, headOf}
+use Rattle.circuit.specs.Circuits.{Circuit, lineCount, headOf, headLines}
 use Rattle.circuit.specs.Format.{fileLength}
 use Rattle.circuit.specs.Reading.{readCircuit}
 use Rattle.run.specs.RunCircuit.{runForwards}
 use Rattle.program.specs.Programs.{Program, outputValue}
 use Rattle.program.specs.Reading.{readProgram}
 use Rattle.evaluate.specs.Evaluating.{evaluateOf}
-use Rattle.construction.specs.Theorems.{Start, firstShares, shareOf, After}
+use Rattle.construction.specs.Theorems.{Start, firstShares, shareOf, After, AfterInParts}
 use Rattle.compile.specs.Compiling.{outputTrees, programCircuit, compileOf}
 
 -- the file written: the first bytes of the area at exit, as many as the answer's gates need
@@ -59,3 +61,20 @@ pub record Demand3 (file : List ℕ) (answer : Answer CircuitHead) (area : List 
 -- and that is so of every file, whatever the grant was and the lent areas held
 abbrev pub Demand3Holds : Type 0
 Demand3Holds = (file : List ℕ) (grant : ℕ) (sizes area : List ℕ) → Demand3 file (compileOf file grant sizes area .answer) (compileOf file grant sizes area .area)
+
+-- what demand 3 comes to at one j, of line bytes that pass cause 13 and of whole parts of the lines, with what the services answer as the outputs' values
+pub record AtShare (file : List ℕ) (h : CircuitHead) (written start : List ℕ) (j : ℕ) : Type 0 where
+  pub program : Program
+  pub read : readProgram file ≡ result program
+  pub circuit : Circuit
+  pub back : readCircuit written ≡ result circuit
+  pub values : (k : ℕ) → k < h .outputs → (list : List ℕ) → length (program .nodes) ≤ length list → evaluateOf file list (take (h .inputs) start) k .answer ≡ result (outputValue program (take (h .inputs) start) k)
+  pub parts : AfterInParts (h .inputs) (h .outputs) (h .work) (outputValue program (take (h .inputs) start)) j start (run (take (length (firstOutputs program j)) (circuit .gates)) start)
+  -- at j = m these are the lines that running forwards leaves
+  pub close : j ≡ h .outputs → runForwards written start ≡ result (run (take (length (firstOutputs program j)) (circuit .gates)) start)
+
+-- demand 3 leaves no start, no j and no line open
+abbrev pub Demand3Says : Type 0
+Demand3Says =
+    (file : List ℕ) (answer : Answer CircuitHead) (area : List ℕ) → Demand3 file answer area → (h : CircuitHead) → answer ≡ result h
+    → (start : List ℕ) → bitsFit (headLines h) start ≡ true → (j : ℕ) → j ≤ h .outputs → AtShare file h (fileWritten h area) start j

@@ -25,7 +25,7 @@ ghost use Rattle.circuit.specs.Circuits.{headOf, InRange};
 ghost use Rattle.circuit.specs.Format.{fileLength, openingBytes, areaAfter};
 ghost use Rattle.circuit.specs.Steps.{putGates};
 ghost use Rattle.program.specs.Reading.{programOf};
-ghost use Rattle.construction.specs.Construction.{circuit};
+ghost use Rattle.construction.specs.Construction.{circuitGates};
 ghost use Rattle.construct.specs.Tables.{treesIn};
 ghost use Rattle.construct.specs.Writing.{CircuitRoom};
 ghost use Rattle.compile.specs.Compiling.{compileProgram, compileOf, compiled};
@@ -61,7 +61,7 @@ fn has_room(gates: usize, room: usize) -> bool
 // Stores the head and the shares of all outputs.
 fn write_circuit(nodes: &[u8], outputs: &[u8], head: CircuitHead, area: &mut [u8])
     requires { ⌜ InRange head × CircuitRoom (now nodes) (now outputs) (head .inputs) (now area) ⌝ }
-    ensures { λ _. ⌜ now (area .exit) ≡ putGates (sets (now (area .entry)) 0 (openingBytes head)) 0 (circuit (head .inputs) (treesIn (now (nodes .entry)) (now (outputs .entry)))) ⌝ }
+    ensures { λ _. ⌜ now (area .exit) ≡ putGates (sets (now (area .entry)) 0 (openingBytes head)) 0 (circuitGates (head .inputs) (treesIn (now (nodes .entry)) (now (outputs .entry)))) ⌝ }
 {
     write_head(area, head);
     write_shares(nodes, outputs, head.inputs, area);

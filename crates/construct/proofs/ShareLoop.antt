@@ -11,7 +11,7 @@ use Rattle.program.specs.Exprs.{Expr, ZERO}
 use Rattle.program.specs.Reading.{outputAt}
 use Rattle.circuit.specs.Steps.{putGates}
 use Rattle.circuit.proofs.WriterLaws.{put-length, put-none, put-append}
-use Rattle.construction.specs.Construction.{share, circuit}
+use Rattle.construction.specs.Construction.{share, circuitGates}
 use Rattle.construction.specs.Pools.{allFree}
 use Rattle.construction.proofs.Numbers.{most, shareFrom, sharesFrom, mostOf}
 use Rattle.construction.proofs.CountLaws.{share-length, circuit-length}
@@ -43,7 +43,7 @@ module _ (nodes outputs : List ℕ) (n : ℕ) where
   next k = shareFrom (treeIn nodes (outputAt outputs k)) (n + k) (n + m)
 
   -- all shares are the circuit
-  left-all : left 0 ≡ circuit n es
+  left-all : left 0 ≡ circuitGates n es
   left-all = ap₂ (λ (t l : ℕ). sharesFrom es t (n + l)) (add-zero n) (sym (trees-length nodes outputs)) ∙ sym (circuit-is n es)
 
   -- the next share comes first
@@ -65,8 +65,8 @@ module _ (nodes outputs : List ℕ) (n : ℕ) where
   pub record Writing (area₀ area : List ℕ) (gates k : ℕ) : Type 0 where
     pub within : k ≤ m
     pub same : length area ≡ length area₀
-    pub count : gates + length (left k) ≡ length (circuit n es)
-    pub rest : putGates area gates (left k) ≡ putGates area₀ 0 (circuit n es)
+    pub count : gates + length (left k) ≡ length (circuitGates n es)
+    pub rest : putGates area gates (left k) ≡ putGates area₀ 0 (circuitGates n es)
 
   module _ (area₀ : List ℕ) where
     -- at first, all of them
@@ -114,7 +114,7 @@ module _ (nodes outputs : List ℕ) (n : ℕ) where
           })
 
       -- until none is
-      pub writing-all : m ≤ k → Stored (circuit n es) 0 gates area₀ area
+      pub writing-all : m ≤ k → Stored (circuitGates n es) 0 gates area₀ area
       writing-all h =
           record {
             count-to = omega (arith, p .count, ap (λ (gs : List Gate). length gs) (left-none k h));

@@ -24,7 +24,7 @@ pub record Countable (nodes : List ℕ) (i : ℕ) : Type 0 where
   pub valid : Valid nodes i
   pub small : size (treeIn nodes i) ≤ 16384
 
--- so is the node of each output, and there are at most 64 outputs
+-- so is the node of each output, and there are at most 64 outputs: at most 64 times 32,767 gates, so that no sum is too large
 pub record AllCountable (nodes outputs : List ℕ) : Type 0 where
   pub each : (k : ℕ) → k < length outputs / 2 → Countable nodes (outputAt outputs k)
   pub outputs-most : length outputs / 2 ≤ 64
@@ -35,7 +35,7 @@ pub record Counted (e : Expr) (r : TreeCounts) : Type 0 where
   pub own-are : r .own ≡ ownCount e
   pub lines-are : (t f : ℕ) → r .lines ≡ treeLines e t f
 
--- the gates and work lines of a circuit over any number of inputs, as they are counted: at most 64 times 32,767 gates, so that no sum is too large
+-- the gates and work lines of a circuit over any number of inputs, as they are counted
 pub record Needed (es : List Expr) (r : Needs) : Type 0 where
   pub gates-are : r .gates ≡ gatesShown (sharesCount es)
   pub lines-are : (n : ℕ) → r .lines ≡ linesNeeded n es

@@ -51,7 +51,7 @@ pub record Appended (g : Gate) (p r : Progress) (old new : List ℕ) : Type 0 wh
   pub stored : Stored (g ∷ []) (p .gates) (r .gates) old new
   pub free-to : r .free ≡ p .free
 
--- a tree is built into line t as the construction builds it from any pool whose lowest free line is p's: the lowest then is r's
+-- a tree is built into line t as the construction builds it from any pool that it reaches and whose lowest free line is p's: the lowest then is r's
 pub record BuiltInto (e : Expr) (t : ℕ) (p r : Progress) (old new : List ℕ) : Type 0 where
   pub stores : (q : Pool) → Reached q → lowestFree q ≡ p .free → Stored (build e t q .gates) (p .gates) (r .gates) old new
   pub leaves : (q : Pool) → Reached q → lowestFree q ≡ p .free → lowestFree (build e t q .pool) ≡ r .free

@@ -3,7 +3,7 @@ use crate::builder::Progress;
 use crate::builder::build;
 use crate::reverser::append_reversed;
 use program::reader::output_at;
-ghost use Rattle.construction.specs.Construction.{share, circuit};
+ghost use Rattle.construction.specs.Construction.{share, circuitGates};
 ghost use Rattle.construction.specs.Pools.{allFree};
 ghost use Rattle.construct.specs.Tables.{treeIn, treesIn};
 ghost use Rattle.construct.specs.Writing.{Stored, ShareRoom, CircuitRoom};
@@ -23,7 +23,7 @@ fn write_share(nodes: &[u8], i: usize, target: u16, p: Progress, area: &mut [u8]
 // Writes the shares of all outputs over so many inputs, from the first gate on; the number of gates.
 pub fn write_shares(nodes: &[u8], outputs: &[u8], inputs: usize, area: &mut [u8]) -> usize
     requires { ⌜ CircuitRoom (now nodes) (now outputs) inputs (now area) ⌝ }
-    ensures { λ r. ⌜ Stored (circuit inputs (treesIn (now (nodes .entry)) (now (outputs .entry)))) 0 r (now (area .entry)) (now (area .exit)) ⌝ }
+    ensures { λ r. ⌜ Stored (circuitGates inputs (treesIn (now (nodes .entry)) (now (outputs .entry)))) 0 r (now (area .entry)) (now (area .exit)) ⌝ }
 {
     let free = inputs + outputs.len() / 2;
     let mut gates = 0;

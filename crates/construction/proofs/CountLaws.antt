@@ -12,7 +12,7 @@ use Rattle.gate.specs.Gates.{target}
 use Rattle.gate.specs.Running.{without, uncompute}
 use Rattle.gate.proofs.UncomputeLaws.{without-none, without-both, uncompute-length}
 use Rattle.program.specs.Exprs.{Expr, ZERO, ONE, INPUT, NOT, XOR, AND, size}
-use Rattle.construction.specs.Construction.{circuit}
+use Rattle.construction.specs.Construction.{circuitGates}
 use Rattle.construction.specs.Counting.{gatesShown}
 use Rattle.construction.specs.Steps.{gateCount, ownCount, shareCount, sharesCount}
 use Rattle.construction.proofs.Numbers.{held, most, second, buildFrom, shareFrom, sharesFrom}
@@ -77,7 +77,7 @@ shares-length (e ∷ es) t f h =
     omega (arith, length-append (shareFrom e t f) (sharesFrom es (t + 1) f), share-length e t f (omega arith), shares-length es (t + 1) f (omega arith))
 
 -- and so has a circuit
-pub circuit-length : (n : ℕ) (es : List Expr) → length (circuit n es) ≡ sharesCount es
+pub circuit-length : (n : ℕ) (es : List Expr) → length (circuitGates n es) ≡ sharesCount es
 circuit-length n es = rw (circuit-is n es) (shares-length es n (n + length es) (omega arith))
 
 -- a tree holds fewer lines than its size

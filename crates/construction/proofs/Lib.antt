@@ -1,3 +1,4 @@
+pub mod AfterLaws
 pub mod AndCases
 pub mod BuildLaws
 pub mod ComputeLaws

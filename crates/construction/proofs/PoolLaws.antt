@@ -14,9 +14,9 @@ use Rattle.wire.proofs.CheckLaws.{by-test}
 use Rattle.gate.specs.declared.gates.Gate.{Gate}
 use Rattle.gate.specs.declared.gates.Gate.the-variants.{Toffoli}
 use Rattle.program.specs.Exprs.{Expr, ZERO, ONE, INPUT, NOT, XOR, AND}
-use Rattle.construction.specs.Pools.{Pool, isAmong, allFree, lowestFree, takeLine, release}
+use Rattle.construction.specs.Pools.{Pool, isAmong, allFree, lowestFree, takeLine, freeAll}
 use Rattle.construction.specs.Theorems.{LowestFree, treeGates, treeLines, firstBuilt, firstShares, shareOf}
-use Rattle.construction.specs.Construction.{Built, build, share, shares, allShares, circuit, linesNeeded}
+use Rattle.construction.specs.Construction.{Built, build, share, shares, allShares, circuitGates, linesNeeded}
 use Rattle.construction.specs.Steps.{Reached, fresh, taken, built, released}
 use Rattle.construction.proofs.Numbers.{held, most, second, buildFrom, shareFrom, sharesFrom, mostOf}
 
@@ -94,13 +94,13 @@ pub tree-is : (e : Expr) (t f : ℕ) → build e t (allFree f) ≡ record { gate
 tree-is e t f = rw (all-free f, build-is e t f 0 0 (omega arith)) (rw add-zero (built-same f refl (omega arith) (omega arith)))
 
 -- a share by numbers, where all work lines from line f on are free: so they are again after it
-release-all : (f k m : ℕ) → release [] (inUse f k m) ≡ inUse f 0 m
-unfolding release inUse linesFrom
-release-all f k m = refl
+free-all : (f k m : ℕ) → freeAll (inUse f k m) ≡ inUse f 0 m
+unfolding freeAll inUse linesFrom
+free-all f k m = refl
 
 pub share-is : (e : Expr) (t f m : ℕ) → share e t (inUse f 0 m) ≡ record { gates = shareFrom e t f; pool = inUse f 0 (max m (most e)) }
 unfolding share shareFrom
-share-is e t f m = rw (build-is e t f 0 m (omega arith), release-all, add-zero f) (built-same f refl refl (omega arith))
+share-is e t f m = rw (build-is e t f 0 m (omega arith), free-all, add-zero f) (built-same f refl refl (omega arith))
 
 -- several shares by numbers
 pub shares-are : (es : List Expr) (t f m : ℕ) → shares es t (inUse f 0 m) ≡ record { gates = sharesFrom es t f; pool = inUse f 0 (max m (mostOf es)) }
@@ -122,8 +122,8 @@ module _ (e : Expr) (t f : ℕ) where
 
 -- a circuit's gates and lines
 module _ (n : ℕ) (es : List Expr) where
-  pub circuit-is : circuit n es ≡ sharesFrom es n (n + length es)
-  unfolding circuit allShares
+  pub circuit-is : circuitGates n es ≡ sharesFrom es n (n + length es)
+  unfolding circuitGates allShares
   circuit-is = ap (λ (p : Pool). shares es n p .gates) (all-free (n + length es)) ∙ ap (λ (b : Built). b .gates) (shares-are es n (n + length es) 0)
 
   pub lines-needed : linesNeeded n es ≡ mostOf es
@@ -173,7 +173,7 @@ reached-first _ (built e t p h) =
     }
 reached-first _ (released p h) =
     let u = reached-first p h in
-    record { line = u .line; count = 0; peak = u .peak; few = omega arith; is = ap (release []) (u .is) ∙ release-all (u .line) (u .count) (u .peak) }
+    record { line = u .line; count = 0; peak = u .peak; few = omega arith; is = ap (freeAll) (u .is) ∙ free-all (u .line) (u .count) (u .peak) }
 
 -- a tree by numbers in such a pool, f being its lowest free line
 module _ (e : Expr) (t : ℕ) {p : Pool} {f : ℕ} (h : Reached p) (low : lowestFree p ≡ f) where

@@ -15,7 +15,7 @@ use Rattle.gate.specs.Running.{run}
 use Rattle.gate.proofs.AllLaws.{all-append}
 use Rattle.gate.proofs.StepLaws.{length-run, run-append, run-bits}
 use Rattle.program.specs.Exprs.{Expr, ZERO, value, EachBelow}
-use Rattle.construction.specs.Construction.{shares, circuit}
+use Rattle.construction.specs.Construction.{shares, circuitGates}
 use Rattle.construction.specs.Theorems.{Zeros, CircuitFormed, Start, firstBuilt, firstShares, shareOf, After, SharesRestore}
 use Rattle.construction.proofs.Numbers.{shareFrom, sharesFrom, mostOf, ApartFrom}
 use Rattle.construction.proofs.PoolLaws.{circuit-is, lines-needed, first-shares, share-of, rest-shares}
@@ -106,7 +106,7 @@ shares-append (d ∷ ds) es t f =
 
 module _ (n : ℕ) (es : List Expr) where
   -- the first j shares open the circuit
-  pub shares-open : (j : ℕ) → j ≤ length es → circuit n es ≡ firstShares n es j ++ shares (drop j es) (n + j) (firstBuilt n es j .pool) .gates
+  pub shares-open : (j : ℕ) → j ≤ length es → circuitGates n es ≡ firstShares n es j ++ shares (drop j es) (n + j) (firstBuilt n es j .pool) .gates
   shares-open j h =
       let f : ℕ = n + length es in
       rw (circuit-is n es, first-shares n es j, rest-shares n es j)

@@ -7,14 +7,14 @@ use Rattle.gate.specs.declared.gates.Gate.{Gate}
 use Rattle.gate.specs.declared.gates.Gate.the-variants.{Not, Cnot, Toffoli}
 use Rattle.gate.specs.Running.{uncompute}
 use Rattle.program.specs.Exprs.{Expr, ZERO, ONE, INPUT, NOT, XOR, AND}
-use Rattle.construction.specs.Pools.{Pool, allFree, lowestFree, takeLine, release}
+use Rattle.construction.specs.Pools.{Pool, allFree, lowestFree, takeLine, freeAll}
 
 -- gates that were built, and the pool of work lines after them
 pub record Built : Type 0 where
   pub gates : List Gate
   pub pool : Pool
 
--- XORing a tree into line t (001, COMPILE-BEXP); NOT is 1 XOR its operand
+-- XORing a tree into line t (001, COMPILE-BEXP); NOT is 1 XOR its operand. An AND takes the lowest free work line, builds its first operand there, takes the next lowest, builds the second there, then writes a Toffoli from the two to t
 unfoldable pub build : Expr → ℕ → Pool → Built
 build ZERO t p = record { gates = []; pool = p }
 build ONE t p = record { gates = Not t ∷ []; pool = p }
@@ -37,7 +37,7 @@ build (AND a b) t p =
 unfoldable pub share : Expr → ℕ → Pool → Built
 share e t p =
     let x = build e t p in
-    record { gates = x .gates ++ uncompute (eqb t) (x .gates); pool = release [] (x .pool) }
+    record { gates = x .gates ++ uncompute (eqb t) (x .gates); pool = freeAll (x .pool) }
 
 -- the shares of outputs in their order, the first with target t
 unfoldable pub shares : List Expr → ℕ → Pool → Built
@@ -52,8 +52,8 @@ unfoldable pub allShares : ℕ → List Expr → Built
 allShares n es = shares es n (allFree (n + length es))
 
 -- the gates of a circuit
-unfoldable pub circuit : ℕ → List Expr → List Gate
-circuit n es = allShares n es .gates
+unfoldable pub circuitGates : ℕ → List Expr → List Gate
+circuitGates n es = allShares n es .gates
 
 -- w (01): the most work lines that any output took
 unfoldable pub linesNeeded : ℕ → List Expr → ℕ

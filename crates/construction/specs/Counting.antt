@@ -1,6 +1,6 @@
 -- What is shown of a number of gates that were counted and not written.
 use Prim.Native.Nat.{ℕ}
 
--- the number itself; it has a name because gates that marked nodes multiply (02) can be more than are counted, and the shown number will then have a largest value
+-- the number itself, today. A later request (02) lets a few nodes take more gates than can be counted, and then gives the number shown a largest value: this is the one place to set it
 unfoldable pub gatesShown : ℕ → ℕ
 gatesShown k = k

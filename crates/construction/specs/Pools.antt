@@ -21,7 +21,7 @@ isAmong (l ∷ ls) i = eqb i l || isAmong ls i
 unfoldable pub allFree : ℕ → Pool
 allFree f = record { first = f; used = []; most = 0 }
 
--- the lowest work line that is not in use: of as many as are in use, from the first on, or the one behind them
+-- the lowest work line that is not in use: with k lines in use the first k work lines are tried in turn, and where all of these are in use it is the next
 unfoldable pub lowestFree : Pool → ℕ
 lowestFree p = lowestFrom (isAmong (p .used)) (p .first) (length (p .used))
 
@@ -29,6 +29,6 @@ lowestFree p = lowestFrom (isAmong (p .used)) (p .first) (length (p .used))
 unfoldable pub takeLine : Pool → Pool
 takeLine p = record { first = p .first; used = lowestFree p ∷ p .used; most = max (p .most) (1 + length (p .used)) }
 
--- only these lines are still in use: all others are free again
-unfoldable pub release : List ℕ → Pool → Pool
-release lines p = record { first = p .first; used = lines; most = p .most }
+-- all work lines are free again
+unfoldable pub freeAll : Pool → Pool
+freeAll p = record { first = p .first; used = []; most = p .most }

@@ -2,7 +2,7 @@
 use Prim.Native.Nat.{ℕ, _+_, _*_, _-_}
 use mathlib.Core.List.{List, [], _∷_}
 use Rattle.program.specs.Exprs.{Expr, ZERO, ONE, INPUT, NOT, XOR, AND}
-use Rattle.construction.specs.Pools.{Pool, allFree, takeLine, release}
+use Rattle.construction.specs.Pools.{Pool, allFree, takeLine, freeAll}
 use Rattle.construction.specs.Construction.{build}
 
 -- a pool that the construction reaches
@@ -10,7 +10,7 @@ pub data Reached : Pool → Type 0 where
   fresh : (f : ℕ) → Reached (allFree f)
   taken : (p : Pool) → Reached p → Reached (takeLine p)
   built : (e : Expr) (t : ℕ) (p : Pool) → Reached p → Reached (build e t p .pool)
-  released : (p : Pool) → Reached p → Reached (release [] p)
+  released : (p : Pool) → Reached p → Reached (freeAll p)
 
 -- how many gates build a tree
 unfoldable pub gateCount : Expr → ℕ

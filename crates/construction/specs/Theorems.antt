@@ -2,18 +2,19 @@
 use Prim.Native.Nat.{ℕ, _+_, _≤_, _<_}
 use mathlib.Core.Path.{_≡_}
 use mathlib.Core.Logic.{_≢_}
-use mathlib.Core.Bool.{true, false}
+use mathlib.Core.Bool.{true, false, cond}
 use mathlib.Core.List.{List, _++_}
-use lib.ListN.{length, getD, take, drop}
-use lib.Dec.{eqb}
-use Rattle.wire.specs.Bits.{xorBit, bit, Bits}
+use lib.ListN.{length, getD, take, drop, replicate}
+use lib.Dec.{eqb, ltb}
+use Rattle.wire.specs.Bits.{xorBit, bit, Bits, bitsFit}
+use Rattle.wire.specs.Lists.{tabulate}
 use Rattle.gate.specs.declared.gates.Gate.{Gate}
 use Rattle.gate.specs.Gates.{WellFormed, All}
 use Rattle.gate.specs.Running.{run}
 use Rattle.gate.specs.Theorems.{Spares}
 use Rattle.program.specs.Exprs.{Expr, ZERO, value, InputsBelow, EachBelow}
 use Rattle.construction.specs.Pools.{Pool, lowestFree, isAmong, allFree}
-use Rattle.construction.specs.Construction.{Built, build, share, shares, circuit, linesNeeded}
+use Rattle.construction.specs.Construction.{Built, build, share, shares, circuitGates, linesNeeded}
 
 -- the line that a pool gives is free, and every work line below it is in use
 pub record LowestFree (p : Pool) : Type 0 where
@@ -25,7 +26,7 @@ pub record LowestFree (p : Pool) : Type 0 where
 abbrev pub treeGates : Expr → ℕ → ℕ → List Gate
 treeGates e t f = build e t (allFree f) .gates
 
--- the work lines that it takes
+-- how many work lines it takes
 abbrev pub treeLines : Expr → ℕ → ℕ → ℕ
 treeLines e t f = build e t (allFree f) .pool .most
 
@@ -63,7 +64,7 @@ ShareFormed = (n : ℕ) (e : Expr) (t f L : ℕ) → Apart n e t f L → All (We
 
 -- every gate of a circuit is well formed on its n inputs, its targets and the work lines needed
 abbrev pub CircuitFormed : Type 0
-CircuitFormed = (n : ℕ) (es : List Expr) → EachBelow n es → All (WellFormed (n + length es + linesNeeded n es)) (circuit n es)
+CircuitFormed = (n : ℕ) (es : List Expr) → EachBelow n es → All (WellFormed (n + length es + linesNeeded n es)) (circuitGates n es)
 
 -- 001, Theorem 2: from every start, work lines zero or not, a share leaves every line but its target as it started
 abbrev pub ShareRestores : Type 0
@@ -74,6 +75,10 @@ ShareRestores =
 pub record Start (lines : ℕ) (start : List ℕ) : Type 0 where
   pub long : length start ≡ lines
   pub bits : Bits start
+
+-- every list of line bytes that passes cause 13 is a start: none is left out
+abbrev pub EveryStart : Type 0
+EveryStart = (lines : ℕ) (s : List ℕ) → bitsFit lines s ≡ true → Start lines s
 
 -- the shares of the first j outputs (01), and the pool after them
 unfoldable pub firstBuilt : ℕ → List Expr → ℕ → Built
@@ -98,11 +103,27 @@ pub record After (n m w : ℕ) (v : ℕ → ℕ) (j : ℕ) (start after : List �
   -- where every work line starts at 0, a target whose share is over holds its first bit XOR its output's value
   pub over : Zeros (n + m) w start → (k : ℕ) → k < j → bit after (n + k) ≡ xorBit (bit start (n + k)) (v k)
 
+-- the targets after the first j shares, from work lines at 0: each has its first bit, XOR its output's value where its share is over
+unfoldable pub targetsAfter : ℕ → ℕ → (ℕ → ℕ) → ℕ → List ℕ → List ℕ
+targetsAfter n m v j start = tabulate (λ k. cond (ltb k j) (xorBit (bit start (n + k)) (v k)) (bit start (n + k))) m
+
+-- the same as After, of whole parts of the lines: so that no line is left open
+pub record AfterInParts (n m w : ℕ) (v : ℕ → ℕ) (j : ℕ) (start after : List ℕ) : Type 0 where
+  pub inputs : take n after ≡ take n start
+  pub work : drop (n + m) after ≡ drop (n + m) start
+  pub waiting : drop j (take m (drop n after)) ≡ drop j (take m (drop n start))
+  pub targets : drop (n + m) start ≡ replicate w 0 → take m (drop n after) ≡ targetsAfter n m v j start
+
+-- what After says of single lines it says of all of them
+abbrev pub AfterSays : Type 0
+AfterSays =
+    (n m w : ℕ) (v : ℕ → ℕ) (j : ℕ) (start after : List ℕ) → Start (n + m + w) start → After n m w v j start after → AfterInParts n m w v j start after
+
 -- the shares restore the lines: one claim about the whole run, with every j in it
 pub record SharesRestore (n : ℕ) (es : List Expr) : Type 0 where
   -- the first j shares open the circuit, and all of them are the circuit
-  pub opens : (j : ℕ) → j ≤ length es → circuit n es ≡ firstShares n es j ++ shares (drop j es) (n + j) (firstBuilt n es j .pool) .gates
-  pub whole : firstShares n es (length es) ≡ circuit n es
+  pub opens : (j : ℕ) → j ≤ length es → circuitGates n es ≡ firstShares n es j ++ shares (drop j es) (n + j) (firstBuilt n es j .pool) .gates
+  pub whole : firstShares n es (length es) ≡ circuitGates n es
   -- each share finds the lines as the one before left them
   pub follows : (start : List ℕ) (j : ℕ) → j < length es → run (firstShares n es (j + 1)) start ≡ run (shareOf n es j) (run (firstShares n es j) start)
   -- the values are those on the input lines

@@ -11,11 +11,11 @@ use Rattle.program.specs.Reading.{readProgram}
 use Rattle.evaluate.specs.declared.Evaluated.{Evaluated}
 use Rattle.evaluate.specs.declared.Evaluated.the-variants.{Value, Refused}
 
--- the program of a file whose output can be evaluated on these input bytes, with room for so many values
+-- the program of a file whose output can be evaluated on these input bytes, with a value list of so many entries
 unfoldable pub evaluateFile : List ℕ → ℕ → List ℕ → ℕ → Answer Program
-evaluateFile file room inputs output =
+evaluateFile file entries inputs output =
     andThen (readProgram file) (λ p.
-    check (leb (length (p .nodes)) room) cause.ListLength  -- 7
+    check (leb (length (p .nodes)) entries) cause.ListLength  -- 7
     (check (bitsFit (p .inputs) inputs) cause.InputBytes  -- 14
     (check (ltb output (length (p .outputs))) cause.OutputNumber  -- 15
     (result p))))

@@ -20,18 +20,18 @@ use Rattle.program.specs.Nodes.{operandsFit, nodeAt, nodeFits}
 use Rattle.program.specs.Programs.{outputTree}
 use Rattle.program.specs.Reading.{lengthsFit, outputFits, programOf, readBodies, readProgram}
 use Rattle.program.specs.Trees.{treeOf, treesFrom, trees}
-use Rattle.construction.specs.Pools.{isAmong, allFree, lowestFree, takeLine, release}
+use Rattle.construction.specs.Pools.{isAmong, allFree, lowestFree, takeLine, freeAll}
 use Rattle.construction.specs.Construction.{build, share, shares, allShares, linesNeeded}
 use Rattle.construction.specs.Construction as construction
 use Rattle.construction.specs.Counting.{gatesShown}
 use Rattle.sizing.specs.Sizing.{shown, nodeSizes}
 use Rattle.compile.specs.Compiling.{outputTrees, programCircuit}
-use Rattle.text.specs.Lines.{places, decimal, field, line, gateLine, headLine, listing}
+use Rattle.text.specs.Lines.{digitCount, decimal, field, line, gateLine, firstLine, refusedLine, listing}
 use Rattle.examples.specs.Examples.{wholeFile, norFile, threeFile, xorFile, Examples}
-use Rattle.examples.proofs.RowLaws.{Known, lines-refused, area-refused, written, row}
+use Rattle.examples.proofs.RowLaws.{Known, lines-refused, area-refused, written, lists-refused, row}
 
 pub examples : Examples
-unfolding readProgram readBodies tableFits entriesFit entriesFrom lengthsFit arityFits nodeFits operandsFit outputFits programOf nodeAt lowestFrom size nodeSizes shown programCircuit outputTrees outputTree tabulateFrom trees treesFrom treeOf construction.circuit allShares shares share build isAmong allFree lowestFree takeLine release linesNeeded gatesShown uncompute without target circuitFile openingBytes contentsBytes entriesBytes gatesBytes gateBytes runForwards circuit.readWithLines circuit.readCircuit circuit.readHead circuit.headIn circuit.circuitOf circuit.lengthsFit circuit.rangesFit gateFits fieldsFit wellFormed gateAt bitsFit run step addend xorBit listing headLine gateLine line field decimal places flatMap
+unfolding readProgram readBodies tableFits entriesFit entriesFrom lengthsFit arityFits nodeFits operandsFit outputFits programOf nodeAt lowestFrom size nodeSizes shown programCircuit outputTrees outputTree tabulateFrom trees treesFrom treeOf construction.circuitGates allShares shares share build isAmong allFree lowestFree takeLine freeAll linesNeeded gatesShown uncompute without target circuitFile openingBytes contentsBytes entriesBytes gatesBytes gateBytes runForwards circuit.readWithLines circuit.readCircuit circuit.readHead circuit.headIn circuit.circuitOf circuit.lengthsFit circuit.rangesFit gateFits fieldsFit wellFormed gateAt bitsFit run step addend xorBit listing firstLine gateLine refusedLine line field decimal digitCount flatMap
 examples =
     let whole : Known wholeFile = record { reads = refl; small = refl; few = omega arith } in
     let nor : Known norFile = record { reads = refl; small = refl; few = omega arith } in
@@ -44,6 +44,7 @@ examples =
       wide-bytes = record { writes = refl; reads = refl };
       whole-area = λ grant sizes area. area-refused whole grant sizes area 67 (omega arith);
       whole-grant = λ sizes area. lines-refused whole 1 sizes area (omega arith) (omega arith);
+      whole-refused = lists-refused whole 1 (omega arith) (omega arith) (omega arith);
       whole-target = λ grant sizes area a b c d. ap (λ (file : List ℕ). runForwards file (1 ∷ 1 ∷ 1 ∷ 0 ∷ 0 ∷ [])) (written whole grant sizes area a b c d);
       whole-line = λ grant sizes area a b c d. ap (λ (file : List ℕ). runForwards file (1 ∷ 1 ∷ 1 ∷ 1 ∷ 0 ∷ [])) (written whole grant sizes area a b c d);
       nor = row nor _ (omega arith) (omega arith) (leb-true _ 64028 refl) refl;

@@ -22,7 +22,7 @@ use Rattle.compile.specs.Demand.{fileWritten}
 use Rattle.compile.proofs.AcceptedLaws as compile
 use Rattle.compile.proofs.CompileLaws.{sized}
 use Rattle.compile.proofs.ProgramLaws.{sizeFits, all-small, lines-short, area-short, fits}
-use Rattle.text.specs.Lines.{ascii, listing}
+use Rattle.text.specs.Lines.{ascii, listing, listingOf}
 use Rattle.examples.specs.Examples.{CompiledCase}
 
 -- a file that reads as a program whose outputs are small enough and whose gates are few enough
@@ -71,6 +71,12 @@ module _ {f : List ℕ} (k : Known f) where
     written enough allowed listed room =
         let is : compileOf f grant sizes area .answer ≡ result (headOf c) = ap (λ (x : Compiling). x .answer) (accepted enough allowed listed room) in
         compile.written f grant sizes area (headOf c) (compile.accepted f grant sizes area (headOf c) is)
+
+  -- the text of a grant that is too small
+  pub lists-refused : (grant : ℕ) → grant < c .work → grant ≤ 1024 → length (p .nodes) ≤ 4096 → listingOf f grant ≡ listing (refuse (cause.WorkLines (c .work)))
+  unfolding compileFile readWithSizes
+  lists-refused grant few allowed listed =
+      ap listing (rw (k .reads, le-leb (length (p .nodes)) 4096 listed) (lines-short p grant 64028 (all-small p (k .small)) allowed few))
 
   -- the row of a file that the listing accepts, and lists as text
   pub row : (text : String) → c .work ≤ 1024 → length (p .nodes) ≤ 4096 → length (circuitFile c) ≤ 64028 → listing (result c) ≡ ascii text

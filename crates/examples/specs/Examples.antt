@@ -15,9 +15,9 @@ use Rattle.program.specs.declared.node.Node.the-variants.{Input, Xor, And}
 use Rattle.program.specs.declared.node.Node.the-variants as node
 use Rattle.program.specs.Programs.{Program}
 use Rattle.program.specs.Reading.{readProgram}
-use Rattle.compile.specs.Compiling.{compileFile, compileOf}
+use Rattle.compile.specs.Compiling.{compileOf}
 use Rattle.compile.specs.Demand.{fileWritten}
-use Rattle.text.specs.Lines.{ascii, listing}
+use Rattle.text.specs.Lines.{ascii, listingOf}
 
 -- the file of the whole case, in hex as in 01: the table of contents, the numbers of inputs and outputs, the nodes, the output's node
 abbrev pub wholeFile : List ℕ
@@ -103,7 +103,7 @@ pub record CompiledCase (file : List ℕ) (p : Program) (s : List ℕ) (c : Circ
   -- for every grant from w to 1,024, every size list with an entry for each node and every area with room for the file
   pub compiles : (grant : ℕ) (sizes area : List ℕ) → c .work ≤ grant → grant ≤ 1024 → length (p .nodes) ≤ length sizes → length (circuitFile c) ≤ length area
       → compileOf file grant sizes area ≡ record { answer = result (headOf c); sizes = s ++ drop (length (p .nodes)) sizes; area = circuitFile c ++ drop (length (circuitFile c)) area }
-  pub prints : listing (compileFile file 1024 4096 64028) ≡ ascii text
+  pub prints : listingOf file 1024 ≡ ascii text
 
 -- a circuit is written as these bytes, and they are read as the circuit
 pub record FileBytes (c : Circuit) (bytes : List ℕ) : Type 0 where
@@ -132,6 +132,8 @@ pub record Examples : Type 0 where
   -- a grant of 1 gives 10, place 2
   pub whole-grant : (sizes area : List ℕ) → 3 ≤ length sizes
       → compileOf wholeFile 1 sizes area ≡ record { answer = refused 10 2; sizes = 1 ∷ 1 ∷ 3 ∷ drop 3 sizes; area = area }
+  -- and is listed so
+  pub whole-refused : listingOf wholeFile 1 ≡ ascii "refused 10 2\n"
   -- inputs 1 1, target 1: the target ends 0
   pub whole-target : WholeRun (1 ∷ 1 ∷ 1 ∷ 0 ∷ 0 ∷ []) (1 ∷ 1 ∷ 0 ∷ 0 ∷ 0 ∷ [])
   -- with line 3 starting at 1, the target stays 1 and line 3 ends 1

@@ -11,7 +11,7 @@ use borrow.Author.Tests.{le-leb, lt-leb, leb-true, leb-false, ltb-true, ltb-fals
 use Rattle.io.specs.Digits.{digits, glyph, Fewest}
 use Rattle.wire.specs.Checks.{lowestFrom}
 use Rattle.wire.proofs.CheckLaws.{by-test}
-use Rattle.text.specs.Lines.{places, decimal, field}
+use Rattle.text.specs.Lines.{digitCount, decimal, field}
 
 module _ (test : ℕ → Bool) where
   -- where a test holds at i and fails at r, and r is not lower, r is higher
@@ -61,9 +61,9 @@ module _ (n r : ℕ) (f : Fewest 10 1 n r) where
   fewest-most : n < 10 ^ 20 → r ≤ 20
   fewest-most h = by-test (leb r 20) (leb-true r 20) (λ e. absurd (omega (arith, below-fewest 20 (omega arith) (leb-false r 20 e))))
 
-  -- the fewest digits that hold a number are its places
-  places-is : n < 10 ^ 20 → places n ≡ r
-  unfolding places
+  -- the fewest digits that hold a number are as many as its digits
+  places-is : n < 10 ^ 20 → digitCount n ≡ r
+  unfolding digitCount
   places-is h =
       lowest-is (reaches n) 1 19 r (f .0) (fewest-most h)
       (λ j some less. le-leb (10 ^ j) n (below-fewest j some less))
@@ -75,13 +75,13 @@ module _ (n r : ℕ) (f : Fewest 10 1 n r) where
   decimal-is h = ap (λ (k : ℕ). digits 10 k n) (sym (places-is h))
 
 -- a number below 10 ^ k takes at most k digits
-places-below : (n k : ℕ) → 1 ≤ k → n < 10 ^ k → places n ≤ k
-unfolding places
+places-below : (n k : ℕ) → 1 ≤ k → n < 10 ^ k → digitCount n ≤ k
+unfolding digitCount
 places-below n k some h = lowest-most (reaches n) 1 19 k some (lt-leb (10 ^ k) n h)
 
 -- and every number at most 20
-places-most : (n : ℕ) → places n ≤ 20
-unfolding places
+places-most : (n : ℕ) → digitCount n ≤ 20
+unfolding digitCount
 places-most n = lowest-within (reaches n) 1 19
 
 digits-length : (b k n : ℕ) → length (digits b k n) ≡ k
@@ -89,9 +89,9 @@ digits-length b zero n = refl
 digits-length b (suc k) n = omega (arith, length-append (digits b k (n / b)) (glyph (n % b) ∷ []), digits-length b k (n / b))
 
 -- a field takes a byte more than its number has digits
-field-length : (n : ℕ) → length (field n) ≡ 1 + places n
+field-length : (n : ℕ) → length (field n) ≡ 1 + digitCount n
 unfolding field decimal
-field-length n = omega (arith, digits-length 10 (places n) n)
+field-length n = omega (arith, digits-length 10 (digitCount n) n)
 
 pub field-most : (n : ℕ) → length (field n) ≤ 21
 field-most n = omega (arith, field-length n, places-most n)

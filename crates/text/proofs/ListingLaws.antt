@@ -23,8 +23,8 @@ use Rattle.circuit.proofs.WriterLaws.{opening-length, file-length}
 use Rattle.compile.specs.declared.Compiled.{Compiled}
 use Rattle.compile.specs.declared.Compiled.the-variants.{Written, Refused}
 use Rattle.compile.specs.Compiling.{compiled}
-use Rattle.text.specs.Lines.{ascii, field, line, gateLine, gateLines, headLine, refusedLine, listing, listingOf}
-use Rattle.text.specs.Putting.{Put, TextFits, bodyIn, listed, Listable}
+use Rattle.text.specs.Lines.{ascii, field, line, gateLine, gateLines, firstLine, refusedLine, listing, listingOf}
+use Rattle.text.specs.Putting.{Put, TextFits, bodyIn, printed, Listable}
 use Rattle.text.proofs.DigitLaws.{field-most, field-small}
 
 -- the fields of one, two and three numbers
@@ -70,8 +70,8 @@ module _ (L : ℕ) (small : L ≤ 65536) where
       omega (arith, length-append (gateLine g) (gateLines gs), gate-line-most g (w .0), gate-lines-most gs (w .1))
 
 -- the first line takes at most 96 bytes
-head-line-most : (h : CircuitHead) → length (headLine h) ≤ 96
-unfolding headLine
+head-line-most : (h : CircuitHead) → length (firstLine h) ≤ 96
+unfolding firstLine
 head-line-most h =
     let kinds : List ℕ = h .inputs ∷ h .outputs ∷ h .work ∷ [] in
     let last : List ℕ = line (ascii " gates") (h .gates ∷ []) in
@@ -107,7 +107,7 @@ listing-most (result c) legal =
     let l : Legal c = legal c refl in
     omega (
       arith,
-      length-append (headLine (headOf c)) (gateLines (c .gates)),
+      length-append (firstLine (headOf c)) (gateLines (c .gates)),
       head-line-most (headOf c),
       gate-lines-most (lineCount c) (omega arith) (c .gates) (l .formed),
     )
@@ -133,13 +133,13 @@ module _ (x : Answer Circuit) (legal : LegalResult x) (area₀ : List ℕ) where
   file-there c was s = s ∙ ap (λ (y : Answer Circuit). areaAfter y area₀) was
 
   -- what is printed is the listing of x
-  pub listed-is : (answer : Compiled) (area : List ℕ) → compiled answer ≡ mapAnswer headOf x → area ≡ areaAfter x area₀ → listed answer area ≡ listing x
-  unfolding listed listing
+  pub listed-is : (answer : Compiled) (area : List ℕ) → compiled answer ≡ mapAnswer headOf x → area ≡ areaAfter x area₀ → printed answer area ≡ listing x
+  unfolding printed listing
   listed-is (Written head) area a s =
       let k = came headOf x head a in
       let c : Circuit = k .from in
-      ap₂ (λ (h : CircuitHead) (f : List ℕ). headLine h ++ gateLines (gatesIn (bodyIn f (h .gates)))) (k .reads) (file-there c (k .was) s)
-      ∙ ap (λ (gs : List Gate). headLine (headOf c) ++ gateLines gs) (body-gates c (legal c (k .was)) (drop (length (circuitFile c)) area₀))
+      ap₂ (λ (h : CircuitHead) (f : List ℕ). firstLine h ++ gateLines (gatesIn (bodyIn f (h .gates)))) (k .reads) (file-there c (k .was) s)
+      ∙ ap (λ (gs : List Gate). firstLine (headOf c) ++ gateLines gs) (body-gates c (legal c (k .was)) (drop (length (circuitFile c)) area₀))
       ∙ ap listing (sym (k .was))
   listed-is (Refused why) area a s = ap listing (sym (came-refused headOf x (numberOf why) (placeOf why) a))
 

@@ -20,12 +20,12 @@ ascii string.[] = []
 ascii (string._∷_ c s) = code c ∷ ascii s
 
 -- how many decimal digits a number takes, up to the 20 of a 64-bit number
-unfoldable pub places : ℕ → ℕ
-places n = lowestFrom (λ k. leb (10 ^ k) n) 1 19
+unfoldable pub digitCount : ℕ → ℕ
+digitCount n = lowestFrom (λ k. leb (10 ^ k) n) 1 19
 
 -- a number in decimal
 unfoldable pub decimal : ℕ → List ℕ
-decimal n = digits 10 (places n) n
+decimal n = digits 10 (digitCount n) n
 
 -- a field: one blank and a number
 unfoldable pub field : ℕ → List ℕ
@@ -46,8 +46,8 @@ abbrev pub gateLines : List Gate → List ℕ
 gateLines gs = flatMap gateLine gs
 
 -- the first line: how many inputs, outputs, work lines and gates there are
-unfoldable pub headLine : CircuitHead → List ℕ
-headLine h = ascii "lines" ++ (flatMap field (h .inputs ∷ h .outputs ∷ h .work ∷ []) ++ line (ascii " gates") (h .gates ∷ []))
+unfoldable pub firstLine : CircuitHead → List ℕ
+firstLine h = ascii "lines" ++ (flatMap field (h .inputs ∷ h .outputs ∷ h .work ∷ []) ++ line (ascii " gates") (h .gates ∷ []))
 
 -- the line of a refusal: its number and its place
 unfoldable pub refusedLine : ℕ → ℕ → List ℕ
@@ -55,7 +55,7 @@ refusedLine n p = line (ascii "refused") (n ∷ p ∷ [])
 
 -- what is printed for the compiler's answer
 unfoldable pub listing : Answer Circuit → List ℕ
-listing (result c) = headLine (headOf c) ++ gateLines (c .gates)
+listing (result c) = firstLine (headOf c) ++ gateLines (c .gates)
 listing (refused n p) = refusedLine n p
 
 -- the text that is printed for a program file and a grant; no program that compiles needs more than 4,096 sizes and 64,028 bytes

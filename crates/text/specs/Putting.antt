@@ -10,7 +10,7 @@ use Rattle.circuit.specs.Circuits.{gatesIn}
 use Rattle.circuit.specs.Format.{firstGate, fileLength}
 use Rattle.compile.specs.declared.Compiled.{Compiled}
 use Rattle.compile.specs.declared.Compiled.the-variants.{Written, Refused}
-use Rattle.text.specs.Lines.{gateLines, headLine, refusedLine}
+use Rattle.text.specs.Lines.{gateLines, firstLine, refusedLine}
 
 -- the text is put at index at; r is where it ends
 pub record Put (text : List ℕ) (at r : ℕ) (old new : List ℕ) : Type 0 where
@@ -26,11 +26,11 @@ abbrev pub bodyIn : List ℕ → ℕ → List ℕ
 bodyIn area k = take (8 * k) (drop firstGate area)
 
 -- what is printed for the answer of the service compile, whose gates stand in the area
-unfoldable pub listed : Compiled → List ℕ → List ℕ
-listed (Written head) area = headLine head ++ gateLines (gatesIn (bodyIn area (head .gates)))
-listed (Refused why) area = refusedLine (numberOf why) (placeOf why)
+unfoldable pub printed : Compiled → List ℕ → List ℕ
+printed (Written head) area = firstLine head ++ gateLines (gatesIn (bodyIn area (head .gates)))
+printed (Refused why) area = refusedLine (numberOf why) (placeOf why)
 
 -- the gates stand in the area, and what is printed fits the buffer
 pub record Listable (answer : Compiled) (area buffer : List ℕ) : Type 0 where
   pub there : (head : CircuitHead) → answer ≡ Written head → fileLength (head .gates) ≤ length area
-  pub fits : TextFits (listed answer area) 0 buffer
+  pub fits : TextFits (printed answer area) 0 buffer

@@ -1,7 +1,7 @@
 // The listing of a program file's circuit as text.
 mod lines;
 
-use crate::lines::put_gates;
+use crate::lines::put_gate_lines;
 use crate::lines::put_head;
 use crate::lines::put_refusal;
 use circuit::layout::FIRST_GATE;
@@ -13,7 +13,7 @@ ghost use Prim.Native.Nat.{ℕ, _≤_};
 ghost use lib.ListN.{length, drop};
 ghost use Rattle.circuit.specs.Format.{fileLength};
 ghost use Rattle.text.specs.Lines.{listingOf};
-ghost use Rattle.text.specs.Putting.{Put, bodyIn, listed, Listable};
+ghost use Rattle.text.specs.Putting.{Put, bodyIn, printed, Listable};
 
 // How many bytes a listing takes at most: 96 for the first line and 20 for each of 8,000 gates.
 pub const LISTING_LENGTH: usize = 160096;
@@ -36,12 +36,12 @@ fn body_in(area: &[u8], gates: usize) -> &[u8]
 // Puts the listing of the answer; on a result the gates stand in the area.
 fn put_listing(out: &mut [u8], answer: Compiled, area: &[u8]) -> usize
     requires { ⌜ Listable answer (now area) (now out) ⌝ }
-    ensures { λ r. ⌜ Put (listed answer (now (area .entry))) 0 r (now (out .entry)) (now (out .exit)) ⌝ }
+    ensures { λ r. ⌜ Put (printed answer (now (area .entry))) 0 r (now (out .entry)) (now (out .exit)) ⌝ }
 {
     match answer {
         Compiled::Written(head) => {
             let after_head = put_head(out, 0, head);
-            put_gates(out, after_head, body_in(area, head.gates))
+            put_gate_lines(out, after_head, body_in(area, head.gates))
         }
         Compiled::Refused(why) => put_refusal(out, 0, why),
     }

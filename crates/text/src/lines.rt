@@ -6,7 +6,7 @@ use wire::refusals::Refusal;
 ghost use mathlib.Core.List.{flatMap};
 ghost use Rattle.wire.specs.Answers.{numberOf, placeOf};
 ghost use Rattle.circuit.specs.Circuits.{gatesIn};
-ghost use Rattle.text.specs.Lines.{field, line, gateLine, gateLines, headLine, refusedLine};
+ghost use Rattle.text.specs.Lines.{field, line, gateLine, gateLines, firstLine, refusedLine};
 ghost use Rattle.text.specs.Putting.{Put, TextFits};
 
 // Puts a word.
@@ -34,7 +34,7 @@ fn put_field(out: &mut [u8], at: usize, n: u64) -> usize
 }
 
 // Puts a field for each number.
-fn put_fields(out: &mut [u8], at: usize, numbers: &[u64]) -> usize
+fn put_numbers(out: &mut [u8], at: usize, numbers: &[u64]) -> usize
     requires { ⌜ TextFits (flatMap field (now numbers)) at (now out) ⌝ }
     ensures { λ r. ⌜ Put (flatMap field (now (numbers .entry))) at r (now (out .entry)) (now (out .exit)) ⌝ }
 {
@@ -53,12 +53,12 @@ fn put_line(out: &mut [u8], at: usize, word: &[u8], numbers: &[u64]) -> usize
     ensures { λ r. ⌜ Put (line (now (word .entry)) (now (numbers .entry))) at r (now (out .entry)) (now (out .exit)) ⌝ }
 {
     let after_word = put_word(out, at, word);
-    let after_fields = put_fields(out, after_word, numbers);
+    let after_fields = put_numbers(out, after_word, numbers);
     put_word(out, after_fields, b"\n")
 }
 
 // Puts the line of a gate: its letter, its controls and its target.
-fn put_gate(out: &mut [u8], at: usize, gate: Gate) -> usize
+fn put_gate_line(out: &mut [u8], at: usize, gate: Gate) -> usize
     requires { ⌜ TextFits (gateLine gate) at (now out) ⌝ }
     ensures { λ r. ⌜ Put (gateLine gate) at r (now (out .entry)) (now (out .exit)) ⌝ }
 {
@@ -74,14 +74,14 @@ fn put_gate(out: &mut [u8], at: usize, gate: Gate) -> usize
 }
 
 // Puts a line for each gate of a gate body.
-pub fn put_gates(out: &mut [u8], at: usize, gates: &[u8]) -> usize
+pub fn put_gate_lines(out: &mut [u8], at: usize, gates: &[u8]) -> usize
     requires { ⌜ TextFits (gateLines (gatesIn (now gates))) at (now out) ⌝ }
     ensures { λ r. ⌜ Put (gateLines (gatesIn (now (gates .entry)))) at r (now (out .entry)) (now (out .exit)) ⌝ }
 {
     let mut end = at;
     let mut k = 0;
     while k < gates.len() / 8 {
-        end = put_gate(out, end, gate_at(gates, k));
+        end = put_gate_line(out, end, gate_at(gates, k));
         k += 1;
     }
     end
@@ -89,12 +89,12 @@ pub fn put_gates(out: &mut [u8], at: usize, gates: &[u8]) -> usize
 
 // Puts the first line: how many inputs, outputs, work lines and gates there are.
 pub fn put_head(out: &mut [u8], at: usize, head: CircuitHead) -> usize
-    requires { ⌜ TextFits (headLine head) at (now out) ⌝ }
-    ensures { λ r. ⌜ Put (headLine head) at r (now (out .entry)) (now (out .exit)) ⌝ }
+    requires { ⌜ TextFits (firstLine head) at (now out) ⌝ }
+    ensures { λ r. ⌜ Put (firstLine head) at r (now (out .entry)) (now (out .exit)) ⌝ }
 {
     let kinds = [head.inputs as u64, head.outputs as u64, head.work as u64];
     let after_word = put_word(out, at, b"lines");
-    let after_kinds = put_fields(out, after_word, &kinds);
+    let after_kinds = put_numbers(out, after_word, &kinds);
     put_line(out, after_kinds, b" gates", &[head.gates as u64])
 }
 

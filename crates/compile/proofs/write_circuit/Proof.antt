@@ -4,7 +4,7 @@ use mathlib.Core.Path.{ap, _∙_}
 use mathlib.Core.List.{List}
 use borrow.Author.Needs.{needs}
 use Rattle.circuit.specs.Steps.{putGates}
-use Rattle.construction.specs.Construction.{circuit}
+use Rattle.construction.specs.Construction.{circuitGates}
 use Rattle.construct.specs.Tables.{treesIn}
 use Rattle.compile.proofs.BodyLaws.{writable-same}
 use Rattle.compile.proofs.write_circuit.Statement.{statement}
@@ -20,7 +20,7 @@ same-length : tie.Need-same-length
 same-length c = search needs
 
 returns : tie.Need-returns
-returns c = c .before .before .write-shares .ensures .area-to ∙ ap (λ (l : List ℕ). putGates l 0 (circuit (c .before .before .before .before .before .before .before .before .before .before .before .args .head .inputs) (treesIn (c .before .before .before .before .before .before .before .before .before .before .before .args .nodes .now) (c .before .before .before .before .before .before .before .before .before .before .before .args .outputs .now)))) (c .before .before .before .before .before .before .write-head .ensures)
+returns c = c .before .before .write-shares .ensures .area-to ∙ ap (λ (l : List ℕ). putGates l 0 (circuitGates (c .before .before .before .before .before .before .before .before .before .before .before .args .head .inputs) (treesIn (c .before .before .before .before .before .before .before .before .before .before .before .args .nodes .now) (c .before .before .before .before .before .before .before .before .before .before .before .args .outputs .now)))) (c .before .before .before .before .before .before .write-head .ensures)
 
 pub write-circuit-spec : {M : Type 1} → statement M
 write-circuit-spec = tie.close (tie.spec write-head-requires write-shares-requires same-length returns)

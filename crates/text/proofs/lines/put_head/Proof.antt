@@ -2,7 +2,7 @@ use Prim.Native.Nat.{ℕ}
 use mathlib.Core.List.{List, [], _∷_, _++_, flatMap}
 use borrow.Author.Needs.{needs}
 use Rattle.circuit.specs.declared.reader.CircuitHead.{CircuitHead}
-use Rattle.text.specs.Lines.{ascii, field, line, headLine}
+use Rattle.text.specs.Lines.{ascii, field, line, firstLine}
 use Rattle.text.proofs.PutLaws.{put-then, fits-first, fits-second}
 use Rattle.text.proofs.lines.put_head.Statement.{statement}
 use Rattle.text.proofs.lines.put_head.Tie as tie
@@ -18,15 +18,15 @@ slice-aggregate-put-word : tie.Need-slice-aggregate-put-word
 slice-aggregate-put-word c = search needs
 
 put-word-requires : tie.Need-put-word-requires
-unfolding headLine
+unfolding firstLine
 put-word-requires c κs = fits-first (kinds (c .before .before .before .args .head) ++ gates (c .before .before .before .args .head)) (c .before .before .before .pre)
 
-slice-aggregate-put-fields : tie.Need-slice-aggregate-put-fields
-slice-aggregate-put-fields c = search needs
+slice-aggregate-put-numbers : tie.Need-slice-aggregate-put-numbers
+slice-aggregate-put-numbers c = search needs
 
-put-fields-requires : tie.Need-put-fields-requires
-unfolding headLine
-put-fields-requires c κs = fits-first (gates (c .before .before .before .before .before .before .before .before .args .head)) (fits-second (c .before .before .before .before .before .before .before .before .pre) (c .before .before .before .before .put-word .ensures))
+put-numbers-requires : tie.Need-put-numbers-requires
+unfolding firstLine
+put-numbers-requires c κs = fits-first (gates (c .before .before .before .before .before .before .before .before .args .head)) (fits-second (c .before .before .before .before .before .before .before .before .pre) (c .before .before .before .before .put-word .ensures))
 
 slice-aggregate-put-line : tie.Need-slice-aggregate-put-line
 slice-aggregate-put-line c = search needs
@@ -35,15 +35,15 @@ slice-aggregate-put-line-2 : tie.Need-slice-aggregate-put-line-2
 slice-aggregate-put-line-2 c = search needs
 
 put-line-requires : tie.Need-put-line-requires
-unfolding headLine
-put-line-requires c κs = fits-second (fits-second (c .before .before .before .before .before .before .before .before .before .before .before .before .before .before .pre) (c .before .before .before .before .before .before .before .before .before .before .put-word .ensures)) (c .before .before .before .before .before .put-fields .ensures)
+unfolding firstLine
+put-line-requires c κs = fits-second (fits-second (c .before .before .before .before .before .before .before .before .before .before .before .before .before .before .pre) (c .before .before .before .before .before .before .before .before .before .before .put-word .ensures)) (c .before .before .before .before .before .put-numbers .ensures)
 
 same-length : tie.Need-same-length
 same-length c = search needs
 
 returns : tie.Need-returns
-unfolding headLine
-returns c = put-then (c .before .before .before .before .before .before .before .before .before .before .before .before .before .put-word .ensures) (put-then (c .before .before .before .before .before .before .before .before .put-fields .ensures) (c .before .before .put-line .ensures))
+unfolding firstLine
+returns c = put-then (c .before .before .before .before .before .before .before .before .before .before .before .before .before .put-word .ensures) (put-then (c .before .before .before .before .before .before .before .before .put-numbers .ensures) (c .before .before .put-line .ensures))
 
 pub put-head-spec : {M : Type 1} → statement M
 put-head-spec =
@@ -51,8 +51,8 @@ put-head-spec =
     (tie.spec
     slice-aggregate-put-word
     put-word-requires
-    slice-aggregate-put-fields
-    put-fields-requires
+    slice-aggregate-put-numbers
+    put-numbers-requires
     slice-aggregate-put-line
     slice-aggregate-put-line-2
     put-line-requires

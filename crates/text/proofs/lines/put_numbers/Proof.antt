@@ -3,8 +3,8 @@ use lib.ListN.{length}
 use borrow.Author.Needs.{needs}
 use Rattle.text.specs.Lines.{field}
 use Rattle.text.proofs.PutLaws.{EachPut, each-start, each-fits, each-next, each-all, put-length}
-use Rattle.text.proofs.lines.put_fields.Statement.{statement}
-use Rattle.text.proofs.lines.put_fields.Tie as tie
+use Rattle.text.proofs.lines.put_numbers.Statement.{statement}
+use Rattle.text.proofs.lines.put_numbers.Tie as tie
 
 abbrev Inv-loop : tie.InvT-loop
 Inv-loop out₀ at numbers end₀ i₀ out end i = EachPut field numbers at out₀ out i end
@@ -39,8 +39,8 @@ same-length c = put-length (c .before .loop .inv .put)
 returns : tie.Need-returns Inv-loop μ-loop
 returns c = each-all _ _ _ _ (c .before .loop .inv) (c .loop-test .left)
 
-pub put-fields-spec : {M : Type 1} → statement M
-put-fields-spec =
+pub put-numbers-spec : {M : Type 1} → statement M
+put-numbers-spec =
     tie.close
     (tie.spec
     Inv-loop

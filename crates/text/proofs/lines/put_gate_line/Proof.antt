@@ -1,7 +1,7 @@
 use borrow.Author.Needs.{needs}
 use Rattle.text.specs.Lines.{line, gateLine}
-use Rattle.text.proofs.lines.put_gate.Statement.{statement}
-use Rattle.text.proofs.lines.put_gate.Tie as tie
+use Rattle.text.proofs.lines.put_gate_line.Statement.{statement}
+use Rattle.text.proofs.lines.put_gate_line.Tie as tie
 
 enum-known-gate : tie.Need-enum-known-gate
 enum-known-gate c = search needs
@@ -81,8 +81,8 @@ returns-3 : tie.Need-returns-3
 unfolding gateLine line
 returns-3 c = rw (c .before .before .before .before .before .before .before .gate3 .given .1) (c .before .before .put-line3 .ensures)
 
-pub put-gate-spec : {M : Type 1} → statement M
-put-gate-spec =
+pub put-gate-line-spec : {M : Type 1} → statement M
+put-gate-line-spec =
     tie.close
     (tie.spec
     enum-known-gate
