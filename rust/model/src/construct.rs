@@ -4,8 +4,6 @@
 //! A node is unfolded at each use, so the time that all but [`sizes`] take grows with the unfolded
 //! size.
 
-use std::collections::BTreeSet;
-
 use crate::circuit::{Circuit, Gate};
 use crate::program::{Node, Program};
 
@@ -15,7 +13,7 @@ pub fn build(nodes: &[Node], i: usize, t: usize, f: usize) -> Vec<Gate> {
 }
 
 fn built(nodes: &[Node], i: usize, t: usize, f: usize) -> Building<'_> {
-    let lines = WorkLines { first: f, in_use: BTreeSet::new(), most: 0 };
+    let lines = WorkLines { first: f, in_use: Vec::new(), most: 0 };
     let mut building = Building { nodes, lines, gates: Vec::new() };
     building.xor_into(i, t);
     building
@@ -23,13 +21,19 @@ fn built(nodes: &[Node], i: usize, t: usize, f: usize) -> Building<'_> {
 
 /// The gates of output k: C, then C reversed without the gates whose target is the output's.
 pub fn share(program: &Program, k: usize) -> Vec<Gate> {
+    share_and_lines(program, k).0
+}
+
+/// The same, and the most work lines that were in use together.
+fn share_and_lines(program: &Program, k: usize) -> (Vec<Gate>, usize) {
     let target = program.inputs + k;
     let first_work_line = program.inputs + program.outputs.len();
-    let mut gates = build(&program.nodes, program.outputs[k], target, first_work_line);
+    let Building { mut gates, lines, .. } =
+        built(&program.nodes, program.outputs[k], target, first_work_line);
     let undone: Vec<Gate> =
         gates.iter().rev().filter(|gate| gate.target() != target).copied().collect();
     gates.extend(undone);
-    gates
+    (gates, lines.most)
 }
 
 /// The gates of the first j outputs, one share after the other.
@@ -39,36 +43,32 @@ pub fn shares(program: &Program, j: usize) -> Vec<Gate> {
 
 /// The circuit of a program, whether a file can hold it or not.
 pub fn circuit(program: &Program) -> Circuit {
-    Circuit {
-        inputs: program.inputs,
-        outputs: program.outputs.len(),
-        work: program.outputs.iter().map(|i| most_in_use(&program.nodes, *i)).max().unwrap_or(0),
-        gates: shares(program, program.outputs.len()),
+    let (mut gates, mut work) = (Vec::new(), 0);
+    for k in 0..program.outputs.len() {
+        let (share, lines) = share_and_lines(program, k);
+        gates.extend(share);
+        work = work.max(lines);
     }
+    Circuit { inputs: program.inputs, outputs: program.outputs.len(), work, gates }
 }
 
-/// The most work lines that are in use together while node i is built: which lines they are, and
-/// where it is built, is all one.
-fn most_in_use(nodes: &[Node], i: usize) -> usize {
-    built(nodes, i, 0, 1).lines.most
-}
-
-/// The work lines from the first on: those in use, and the most that were in use together.
+/// The work lines from the first on: which are in use, and the most that were in use together.
 struct WorkLines {
     first: usize,
-    in_use: BTreeSet<usize>,
+    in_use: Vec<bool>,
     most: usize,
 }
 
 impl WorkLines {
     fn take_lowest_free(&mut self) -> usize {
-        let mut line = self.first;
-        while self.in_use.contains(&line) {
-            line += 1;
+        let lowest = self.in_use.iter().position(|used| !used).unwrap_or(self.in_use.len());
+        match self.in_use.get_mut(lowest) {
+            Some(used) => *used = true,
+            None => self.in_use.push(true),
         }
-        self.in_use.insert(line);
-        self.most = self.most.max(self.in_use.len());
-        line
+        let together = self.in_use.iter().filter(|used| **used).count();
+        self.most = self.most.max(together);
+        self.first + lowest
     }
 }
 
