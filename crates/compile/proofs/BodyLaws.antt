@@ -1,7 +1,7 @@
 -- Laws of the bodies of an accepted program file: their trees are the program's, and so are the counts. Assumes nothing.
 use Prim.Native.Nat.{ℕ, _/_, _<_, _≤_}
 use native.Mathlib.Omega.{arith}
-use mathlib.Core.Path.{_≡_, refl, sym, ap, ap₂, _∙_}
+use mathlib.Core.Path.{_≡_, sym, ap, ap₂, _∙_}
 use mathlib.Core.List.{List}
 use lib.ListN.{length, getD}
 use Rattle.wire.specs.Contents.{bodyOf}
@@ -18,7 +18,7 @@ use Rattle.wire.specs.Arity.{inputsOf}
 use Rattle.program.specs.Reading.{outputAt, programOf}
 use Rattle.program.specs.Trees.{trees}
 use Rattle.program.specs.Steps.{TableOk}
-use Rattle.program.proofs.AcceptedLaws.{Accepted, same-nodes, outputs-length, output-is, table-ok}
+use Rattle.program.proofs.AcceptedLaws.{Accepted, same-nodes, outputs-length, output-is, table-ok, inputs-is}
 use Rattle.program.proofs.ReadingLaws.{nodes-counted, outputs-counted}
 use Rattle.construction.specs.Construction.{circuitGates, linesNeeded}
 use Rattle.construction.specs.Counting.{gatesShown}
@@ -57,10 +57,6 @@ module _ (f : List ℕ) (a : Accepted f) where
       tabulate-same (λ k. treeIn (bodyOf f 1) (outputAt (bodyOf f 2) k)) (outputTree (programOf f)) (length (bodyOf f 2) / 2) tree-same
       ∙ ap (tabulate (outputTree (programOf f))) outputs-count
 
-  inputs-same : inputsOf f ≡ programOf f .inputs
-  unfolding programOf
-  inputs-same = refl
-
   -- where no output is too large the shares can be counted
   pub countable : ((k : ℕ) → k < length (programOf f .outputs) → size (outputTree (programOf f) k) ≤ 16384) → AllCountable (bodyOf f 1) (bodyOf f 2)
   countable small =
@@ -96,11 +92,11 @@ module _ (f : List ℕ) (a : Accepted f) where
         record {
           ordered = rw n nodes-ordered;
           named = names-node;
-          lines = rw n (omega (arith, a .inputs-most, a .outputs-most, outputs-counted f (a .sized), ap₂ linesNeeded inputs-same trees-same));
+          lines = rw n (omega (arith, a .inputs-most, a .outputs-most, outputs-counted f (a .sized), ap₂ linesNeeded (sym (inputs-is f a)) trees-same));
           room = omega (arith, ap sharesCount trees-same, length-is);
         },
       )
 
 -- an area of the same length can be written as well
-pub writable-same : {nodes outputs area after : List ℕ} {n : ℕ} → CircuitRoom nodes outputs n area → length after ≡ length area → CircuitRoom nodes outputs n after
-writable-same w e = record { ordered = w .ordered; named = w .named; lines = w .lines; room = omega (arith, w .room) }
+pub room-same : {nodes outputs area after : List ℕ} {n : ℕ} → CircuitRoom nodes outputs n area → length after ≡ length area → CircuitRoom nodes outputs n after
+room-same w e = record { ordered = w .ordered; named = w .named; lines = w .lines; room = omega (arith, w .room) }

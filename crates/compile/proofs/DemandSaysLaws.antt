@@ -1,4 +1,4 @@
--- Demand 3 leaves no start, no j and no line open. Assumes nothing.
+-- Demand 3 leaves no start, no j, no gate and no line open. Assumes nothing.
 use Prim.Native.Nat.{ℕ, _≤_}
 use mathlib.Core.Path.{_≡_, sym, ap, _∙_, subst}
 use mathlib.Core.Bool.{true}
@@ -32,6 +32,9 @@ at-share file written h k start fits j few =
       read = k .read;
       circuit = c;
       back = k .back;
+      opens = r .opens j few;
+      next = r .follows j;
+      whole = λ last. ap (firstOutputs p) last ∙ r .all;
       values = r .evaluates;
       parts = rw opened parts;
       close = λ last. r .runs ∙ ap result (sym (r .ends) ∙ ap (λ (i : ℕ). run (firstOutputs p i) start) (sym last) ∙ sym opened);

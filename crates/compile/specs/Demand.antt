@@ -68,12 +68,16 @@ pub record AtShare (file : List ℕ) (h : CircuitHead) (written start : List ℕ
   pub read : readProgram file ≡ result program
   pub circuit : Circuit
   pub back : readCircuit written ≡ result circuit
+  -- the gates of the first j shares open those read back, the next share goes on from where they left the lines, and at j = m they are all
+  pub opens : take (length (firstOutputs program j)) (circuit .gates) ≡ firstOutputs program j
+  pub next : j < h .outputs → run (firstOutputs program (j + 1)) start ≡ run (shareOf (program .inputs) (outputTrees program) j) (run (firstOutputs program j) start)
+  pub whole : j ≡ h .outputs → firstOutputs program j ≡ circuit .gates
   pub values : (k : ℕ) → k < h .outputs → (list : List ℕ) → length (program .nodes) ≤ length list → evaluateOf file list (take (h .inputs) start) k .answer ≡ result (outputValue program (take (h .inputs) start) k)
   pub parts : AfterInParts (h .inputs) (h .outputs) (h .work) (outputValue program (take (h .inputs) start)) j start (run (take (length (firstOutputs program j)) (circuit .gates)) start)
   -- at j = m these are the lines that running forwards leaves
   pub close : j ≡ h .outputs → runForwards written start ≡ result (run (take (length (firstOutputs program j)) (circuit .gates)) start)
 
--- demand 3 leaves no start, no j and no line open
+-- demand 3 leaves no start, no j, no gate and no line open
 abbrev pub Demand3Says : Type 0
 Demand3Says =
     (file : List ℕ) (answer : Answer CircuitHead) (area : List ℕ) → Demand3 file answer area → (h : CircuitHead) → answer ≡ result h

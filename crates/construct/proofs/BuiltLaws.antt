@@ -11,7 +11,7 @@ use Rattle.program.specs.Exprs.{Expr, ZERO, ONE, INPUT, NOT, XOR, AND}
 use Rattle.construction.specs.Pools.{Pool, allFree, lowestFree}
 use Rattle.construction.specs.Steps.{Reached, fresh, gateCount}
 use Rattle.construction.proofs.Numbers.{held, most, second, buildFrom}
-use Rattle.construction.proofs.PoolLaws.{lines-are, reached-gates, reached-free, start-free}
+use Rattle.construction.proofs.PoolLaws.{tree-lines, reached-gates, reached-free, start-free}
 use Rattle.construction.proofs.CountLaws.{build-length}
 use Rattle.construction.proofs.LineLaws.{most-not, most-xor-first, most-xor-second, most-and-first, most-and-second}
 use Rattle.construct.specs.declared.builder.Progress.{Progress}
@@ -91,7 +91,7 @@ room-part : {nodes : List ℕ} {i t : ℕ} {p : Progress} {l : List ℕ} (a t′
     → q .free + most (treeIn nodes a) ≤ p .free + most (treeIn nodes i)
     → BuildRoom nodes a t′ q l′
 room-part {nodes} {i} {t} {p} a t′ q l′ m ok h same g f =
-    record { valid = ok; taken = h; lines = omega (arith, m .lines, f, lines-are (treeIn nodes a) t′ (q .free), lines-are (treeIn nodes i) t (p .free)); room = omega (arith, m .room, g, same) }
+    record { valid = ok; taken = h; lines = omega (arith, m .lines, f, tree-lines (treeIn nodes a) t′ (q .free), tree-lines (treeIn nodes i) t (p .free)); room = omega (arith, m .room, g, same) }
 
 -- there is room for one gate more of node i
 room-gate : {nodes : List ℕ} {i t : ℕ} {p : Progress} {l : List ℕ} (k : ℕ) (l′ : List ℕ) → BuildRoom nodes i t p l → length l′ ≡ length l
@@ -139,10 +139,10 @@ module _ {nodes : List ℕ} {i t : ℕ} {p : Progress} {l : List ℕ} (m : Build
 
   module _ {a b : ℕ} (k : Binary AND nodes i a b) where
     first-line : p .free + (1 + most (treeIn nodes a)) ≤ 65535
-    first-line = omega (arith, m .lines, lines-are (treeIn nodes i) t (p .free), ap most (k .is), most-and-first (treeIn nodes a) (treeIn nodes b))
+    first-line = omega (arith, m .lines, tree-lines (treeIn nodes i) t (p .free), ap most (k .is), most-and-first (treeIn nodes a) (treeIn nodes b))
 
     second-line : p .free + (1 + held (treeIn nodes a) + (1 + most (treeIn nodes b))) ≤ 65535
-    second-line = omega (arith, m .lines, lines-are (treeIn nodes i) t (p .free), ap most (k .is), most-and-second (treeIn nodes a) (treeIn nodes b))
+    second-line = omega (arith, m .lines, tree-lines (treeIn nodes i) t (p .free), ap most (k .is), most-and-second (treeIn nodes a) (treeIn nodes b))
 
     -- there is a line for the first
     pub line-first : p .free < 65535

@@ -11,7 +11,7 @@ use Rattle.construction.proofs.Numbers.{held, most, mostOf}
 use Rattle.construction.specs.Counting.{gatesShown}
 use Rattle.construction.specs.Steps.{gateCount, ownCount, shareCount, sharesCount}
 use Rattle.construction.proofs.CountLaws.{own-few, lines-below-size, gates-within-size, share-within-size}
-use Rattle.construction.proofs.PoolLaws.{lines-are, lines-needed}
+use Rattle.construction.proofs.PoolLaws.{tree-lines, lines-needed}
 use Rattle.construct.specs.declared.counter.TreeCounts.{TreeCounts}
 use Rattle.construct.specs.declared.counter.Needs.{Needs}
 use Rattle.construct.specs.Counters.{Few, Countable, Counted, Needed}
@@ -20,7 +20,7 @@ use Rattle.construct.proofs.OperandLaws.{Operand, trees-length, tree-at
 
 module _ {e : Expr} {x : TreeCounts} (k : Counted e x) where
   lines-counted : x .lines ≡ most e
-  lines-counted = k .lines-are 0 0 ∙ lines-are e 0 0
+  lines-counted = k .lines-are 0 0 ∙ tree-lines e 0 0
 
   pub few : size e ≤ 16384 → Few x
   unfolding gatesShown
@@ -44,15 +44,15 @@ module _ {e : Expr} {x : TreeCounts} (k : Counted e x) where
 -- what each arm answers
 pub counted-zero : {x : TreeCounts} → x ≡ record { gates = 0; own = 0; lines = 0 } → Counted ZERO x
 unfolding gatesShown gateCount ownCount most held
-counted-zero e = rw e (record { gates-are = refl; own-are = refl; lines-are = λ t f. sym (lines-are ZERO t f) })
+counted-zero e = rw e (record { gates-are = refl; own-are = refl; lines-are = λ t f. sym (tree-lines ZERO t f) })
 
 pub counted-one : {x : TreeCounts} → x ≡ record { gates = 1; own = 1; lines = 0 } → Counted ONE x
 unfolding gatesShown gateCount ownCount most held
-counted-one e = rw e (record { gates-are = refl; own-are = refl; lines-are = λ t f. sym (lines-are ONE t f) })
+counted-one e = rw e (record { gates-are = refl; own-are = refl; lines-are = λ t f. sym (tree-lines ONE t f) })
 
 pub counted-input : {x : TreeCounts} (j : ℕ) → x ≡ record { gates = 1; own = 1; lines = 0 } → Counted (INPUT j) x
 unfolding gatesShown gateCount ownCount most held
-counted-input j e = rw e (record { gates-are = refl; own-are = refl; lines-are = λ t f. sym (lines-are (INPUT j) t f) })
+counted-input j e = rw e (record { gates-are = refl; own-are = refl; lines-are = λ t f. sym (tree-lines (INPUT j) t f) })
 
 pub counted-not : {a : Expr} {x r : TreeCounts} → Counted a x → r ≡ record { gates = 1 + x .gates; own = 1 + x .own; lines = x .lines } → Counted (NOT a) r
 unfolding gatesShown gateCount ownCount most held
@@ -61,7 +61,7 @@ counted-not {a} k e =
     (record {
       gates-are = omega (arith, k .gates-are);
       own-are = omega (arith, k .own-are);
-      lines-are = λ t f. lines-counted k ∙ sym (lines-are (NOT a) t f);
+      lines-are = λ t f. lines-counted k ∙ sym (tree-lines (NOT a) t f);
     })
 
 module _ {a b : Expr} {x y r : TreeCounts} (k : Counted a x) (l : Counted b y) where
@@ -72,7 +72,7 @@ module _ {a b : Expr} {x y r : TreeCounts} (k : Counted a x) (l : Counted b y) w
       (record {
         gates-are = omega (arith, k .gates-are, l .gates-are);
         own-are = omega (arith, k .own-are, l .own-are);
-        lines-are = λ t f. omega (arith, lines-counted k, lines-counted l, lines-are (XOR a b) t f);
+        lines-are = λ t f. omega (arith, lines-counted k, lines-counted l, tree-lines (XOR a b) t f);
       })
 
   pub counted-and : r ≡ record { gates = x .gates + y .gates + 1; own = 1; lines = 1 + x .lines + (1 + y .lines) } → Counted (AND a b) r
@@ -82,7 +82,7 @@ module _ {a b : Expr} {x y r : TreeCounts} (k : Counted a x) (l : Counted b y) w
       (record {
         gates-are = omega (arith, k .gates-are, l .gates-are);
         own-are = refl;
-        lines-are = λ t f. omega (arith, lines-counted k, lines-counted l, lines-are (AND a b) t f);
+        lines-are = λ t f. omega (arith, lines-counted k, lines-counted l, tree-lines (AND a b) t f);
       })
 
 -- the operands of a node that is small enough are so too

@@ -15,7 +15,7 @@ use Rattle.construction.specs.Construction.{share, circuitGates}
 use Rattle.construction.specs.Pools.{allFree}
 use Rattle.construction.proofs.Numbers.{most, shareFrom, sharesFrom, mostOf}
 use Rattle.construction.proofs.CountLaws.{share-length, circuit-length}
-use Rattle.construction.proofs.PoolLaws.{share-gates, lines-are, circuit-is, lines-needed}
+use Rattle.construction.proofs.PoolLaws.{share-gates, tree-lines, circuit-is, lines-needed}
 use Rattle.construct.specs.Tables.{treeIn, treesIn}
 use Rattle.construct.specs.Writing.{Stored, ShareRoom, CircuitRoom}
 use Rattle.construct.proofs.OperandLaws.{trees-length, tree-at}
@@ -88,7 +88,7 @@ module _ (nodes outputs : List ℕ) (n : ℕ) where
             valid = record { inputs = n; ordered = w .ordered; inside = w .named k h };
             behind = behind;
             taken = taken;
-            lines = omega (arith, w .lines, lines-needed n es, lines-are (treeIn nodes (outputAt outputs k)) t (n + m), ap most (tree-at nodes outputs k h), most-needed es k (omega (arith, trees-length nodes outputs)));
+            lines = omega (arith, w .lines, lines-needed n es, tree-lines (treeIn nodes (outputAt outputs k)) t (n + m), ap most (tree-at nodes outputs k h), most-needed es k (omega (arith, trees-length nodes outputs)));
             room =
                 omega (
                   arith,

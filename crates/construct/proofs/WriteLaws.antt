@@ -17,7 +17,7 @@ use Rattle.construction.specs.Steps.{gateCount, shareCount}
 use Rattle.construction.proofs.Numbers.{buildFrom, shareFrom, ApartFrom}
 use Rattle.construction.proofs.CountLaws.{own-few, share-length}
 use Rattle.construction.proofs.LineLaws.{build-formed}
-use Rattle.construction.proofs.PoolLaws.{share-gates, lines-are}
+use Rattle.construction.proofs.PoolLaws.{share-gates, tree-lines}
 use Rattle.construct.specs.declared.builder.Progress.{Progress}
 use Rattle.construct.specs.Tables.{treeIn}
 use Rattle.construct.specs.Writing.{gatesFrom, Stored, Reversible, BuiltInto, BuildRoom, ShareRoom}
@@ -48,7 +48,7 @@ module _ {nodes : List ℕ} {i t : ℕ} {p : Progress} {area : List ℕ} (r : Sh
         inputs = trees-below (r .valid .inputs) (nodesIn nodes) (r .valid .ordered) i;
         behind = r .behind;
         free = r .taken;
-        below = omega (arith, r .lines, lines-are (treeIn nodes i) t (p .free));
+        below = omega (arith, r .lines, tree-lines (treeIn nodes i) t (p .free));
       }
 
   abbrev built : List Gate

@@ -2,23 +2,22 @@
 use Prim.Native.Nat.{ℕ, _+_, _-_, _<_, _≤_}
 use native.Mathlib.Omega.{arith}
 use mathlib.Core.Path.{_≡_, refl, sym, ap, _∙_}
-use mathlib.Core.Bool.{true, false}
 use mathlib.Core.List.{List}
 use lib.ListN.{length, getD, take, drop, replicate, length-take, length-drop, getD-replicate}
 use lib.Seq.{getD-take, getD-drop, ext-getD}
 use lib.Dec.{ltb}
 use borrow.Author.Tests.{ltb-true, ltb-false}
-use Rattle.wire.specs.Bits.{xorBit, bit}
+use Rattle.wire.specs.Bits.{bit}
 use Rattle.wire.proofs.BitLaws.{bits-count, bits-are}
 use Rattle.wire.proofs.CheckLaws.{by-test}
 use Rattle.wire.proofs.ListLaws.{tabulate-length, tabulate-at}
-use Rattle.construction.specs.Theorems.{Zeros, EveryStart, Start, After, targetsAfter, AfterInParts, AfterSays}
+use Rattle.construction.specs.Theorems.{Zeros, EveryStart, Start, After, targetsAfter, AfterSays}
 
 pub every-start : EveryStart
 every-start lines s e = record { long = bits-count lines s e; bits = bits-are lines s e }
 
 -- two lists that agree on a part of their indices have that part in common
-same-front : (n : ℕ) (s t : List ℕ) → length s ≡ length t → ((i : ℕ) → i < n → bit s i ≡ bit t i) → take n s ≡ take n t
+pub same-front : (n : ℕ) (s t : List ℕ) → length s ≡ length t → ((i : ℕ) → i < n → bit s i ≡ bit t i) → take n s ≡ take n t
 same-front n s t l h =
     ext-getD 0 (take n s) (take n t) (omega (arith, length-take n s, length-take n t))
     (λ i b. let below : i < n = omega (arith, length-take n s) in getD-take n s i 0 below ∙ h i below ∙ sym (getD-take n t i 0 below))

@@ -15,23 +15,19 @@ use Rattle.gate.proofs.StepLaws.{length-run, step-target, step-other, step-bits
 use Rattle.program.specs.Exprs.{Expr, ZERO, ONE, INPUT, NOT, XOR, AND, value}
 use Rattle.program.proofs.ValueLaws.{value-bit}
 use Rattle.construction.specs.Theorems.{Zeros, Computes}
+use Rattle.construction.proofs.AfterLaws.{same-front}
 use Rattle.construction.proofs.Numbers.{held, most, second, buildFrom, ApartFrom}
-use Rattle.construction.proofs.LineLaws.{most-not, most-xor-first, most-xor-second, most-and-first, most-and-second, apart-not, apart-xor-first, apart-xor-second, apart-and-first, apart-and-second, build-formed, build-leaves, build-frees}
+use Rattle.construction.proofs.LineLaws.{most-not, most-xor-first, most-xor-second, most-and-first, most-and-second, apart-not, apart-xor-first, apart-xor-second, apart-and-first, apart-and-second, build-formed, build-leaves-from, build-frees}
 
 -- where a run leaves the first n lines, they are read as before
 pub inputs-run : (n : ℕ) (gs : List Gate) (s : List ℕ) → ((i : ℕ) → i < n → bit (run gs s) i ≡ bit s i) → take n (run gs s) ≡ take n s
-inputs-run n gs s same =
-    let l : length (take n (run gs s)) ≡ length (take n s) = omega (arith, length-take n s, length-take n (run gs s), length-run gs s) in
-    ext-getD 0 (take n (run gs s)) (take n s) l
-    (λ i h.
-    let below : i < n = omega (arith, length-take n (run gs s)) in
-    getD-take n (run gs s) i 0 below ∙ same i below ∙ sym (getD-take n s i 0 below))
+inputs-run n gs s same = same-front n (run gs s) s (length-run gs s) same
 
 -- what building leaves for what is built next
 module _ {n : ℕ} {e : Expr} {t f : ℕ} (s : List ℕ) (p : ApartFrom n e t f (length s)) (b : Bits s) where
   -- the inputs
   inputs-kept : take n (run (buildFrom e t f) s) ≡ take n s
-  inputs-kept = inputs-run n (buildFrom e t f) s (λ i h. build-leaves e t f s i (omega arith) (λ q. omega arith))
+  inputs-kept = inputs-run n (buildFrom e t f) s (λ i h. build-leaves-from e t f s i (omega arith) (λ q. omega arith))
 
   -- bits
   bits-kept : Bits (run (buildFrom e t f) s)
@@ -49,36 +45,36 @@ module _ {n : ℕ} {e : Expr} {t f : ℕ} (s : List ℕ) (p : ApartFrom n e t f 
       ∙ xor-start (value e (take n s)) (value-bit e (take n s) (bits-take n s b))
 
 -- building computes the tree: 001, Theorem 1
-pub build-computes : (n : ℕ) (e : Expr) (t f : ℕ) (s : List ℕ) → ApartFrom n e t f (length s) → Bits s → Zeros f (most e) s → Computes (buildFrom e t f) n e t s
+pub build-computes-from : (n : ℕ) (e : Expr) (t f : ℕ) (s : List ℕ) → ApartFrom n e t f (length s) → Bits s → Zeros f (most e) s → Computes (buildFrom e t f) n e t s
 unfolding buildFrom second value run addend target
-build-computes n ZERO t f s p b zs = sym (xor-end (bit s t) (bit-below s b t))
-build-computes n ONE t f s p b zs = step-target (Not t) s (omega arith)
-build-computes n (INPUT j) t f s p b zs =
+build-computes-from n ZERO t f s p b zs = sym (xor-end (bit s t) (bit-below s b t))
+build-computes-from n ONE t f s p b zs = step-target (Not t) s (omega arith)
+build-computes-from n (INPUT j) t f s p b zs =
     step-target (Cnot j t) s (omega arith) ∙ ap (xorBit (bit s t)) (sym (getD-take n s j 0 (p .inputs)))
-build-computes n (NOT a) t f s p b zs =
+build-computes-from n (NOT a) t f s p b zs =
     let s₁ : List ℕ = step (Not t) s in
     let below : t < length s = omega arith in
     let l : length s₁ ≡ length s = length-run (Not t ∷ []) s in
     let q : ApartFrom n a t f (length s₁) = rw l (apart-not p) in
-    build-computes n a t f s₁ q (step-bits (Not t) s below b)
+    build-computes-from n a t f s₁ q (step-bits (Not t) s below b)
     (λ i h g. step-other (Not t) s i (omega arith) ∙ zs i h (omega (arith, most-not a)))
     ∙ ap₂ (λ (v : ℕ) (x : List ℕ). xorBit v (value a x)) (step-target (Not t) s below)
     (inputs-run n (Not t ∷ []) s (λ i h. step-other (Not t) s i (omega arith)))
     ∙ xor-assoc (bit s t) 1 (value a (take n s))
-build-computes n (XOR a b) t f s p bs zs =
+build-computes-from n (XOR a b) t f s p bs zs =
     let A : List Gate = buildFrom a t f in
     let B : List Gate = buildFrom b t (f + held a) in
     let s₁ : List ℕ = run A s in
     let pa : ApartFrom n a t f (length s) = apart-xor-first p in
     let pb : ApartFrom n b t (f + held a) (length s₁) = rw (length-run A s) (apart-xor-second p) in
-    let at : Computes A n a t s = build-computes n a t f s pa bs (λ i h g. zs i h (omega (arith, most-xor-first a b))) in
+    let at : Computes A n a t s = build-computes-from n a t f s pa bs (λ i h g. zs i h (omega (arith, most-xor-first a b))) in
     let zb : Zeros (f + held a) (most b) s₁ =
     zeros-kept s pa bs (most b) (λ i h g. zs i (omega arith) (omega (arith, most-xor-second a b))) in
     ap (λ (r : List ℕ). bit r t) (run-append A B s)
-    ∙ build-computes n b t (f + held a) s₁ pb (bits-kept s pa bs) zb
+    ∙ build-computes-from n b t (f + held a) s₁ pb (bits-kept s pa bs) zb
     ∙ ap₂ (λ (v : ℕ) (x : List ℕ). xorBit v (value b x)) at (inputs-kept s pa bs)
     ∙ xor-assoc (bit s t) (value a (take n s)) (value b (take n s))
-build-computes n (AND a b) t f s p bs zs =
+build-computes-from n (AND a b) t f s p bs zs =
     let g : ℕ = second f a in
     let A : List Gate = buildFrom a f (f + 1) in
     let B : List Gate = buildFrom b g (g + 1) in
@@ -93,12 +89,12 @@ build-computes n (AND a b) t f s p bs zs =
     let za : Zeros (f + 1) (most a) s = λ i h k. zs i (omega arith) (omega arith) in
     let zb : Zeros g (1 + most b) s₁ = zeros-kept s pa bs (1 + most b) (λ i h k. zs i (omega arith) (omega arith)) in
     let first : bit s₁ f ≡ value a (take n s) =
-    holds-value s pa bs (zs f (omega arith) (omega arith)) (build-computes n a f (f + 1) s pa bs za) in
+    holds-value s pa bs (zs f (omega arith) (omega arith)) (build-computes-from n a f (f + 1) s pa bs za) in
     let last : bit s₂ g ≡ value b (take n s₁) =
-    holds-value s₁ pb b₁ (zb g (omega arith) (omega arith)) (build-computes n b g (g + 1) s₁ pb b₁ (λ i h k. zb i (omega arith) (omega arith))) in
-    let kept : bit s₂ f ≡ bit s₁ f = build-leaves b g (g + 1) s₁ f (omega arith) (λ h. omega arith) in
+    holds-value s₁ pb b₁ (zb g (omega arith) (omega arith)) (build-computes-from n b g (g + 1) s₁ pb b₁ (λ i h k. zb i (omega arith) (omega arith))) in
+    let kept : bit s₂ f ≡ bit s₁ f = build-leaves-from b g (g + 1) s₁ f (omega arith) (λ h. omega arith) in
     let left : bit s₂ t ≡ bit s t =
-    build-leaves b g (g + 1) s₁ t (omega arith) (λ h. omega arith) ∙ build-leaves a f (f + 1) s t (omega arith) (λ h. omega arith) in
+    build-leaves-from b g (g + 1) s₁ t (omega arith) (λ h. omega arith) ∙ build-leaves-from a f (f + 1) s t (omega arith) (λ h. omega arith) in
     ap (λ (r : List ℕ). bit r t) (run-append A (B ++ (T ∷ [])) s ∙ run-append B (T ∷ []) s₁)
     ∙ step-target T s₂ (omega (arith, length-run B s₁, length-run A s))
     ∙ ap₂ xorBit left (ap₂ _*_ (kept ∙ first) (last ∙ ap (value b) (inputs-kept s pa bs)))

@@ -106,8 +106,8 @@ build-controls (AND a b) n t f w =
     ((λ p. omega arith, λ p. omega arith), tt))
 
 -- the target is no control
-pub target-no-control : (n : ℕ) (e : Expr) (t f L : ℕ) → ApartFrom n e t f L → All (Spares (eqb t)) (buildFrom e t f)
-target-no-control n e t f L p =
+pub target-no-control-from : (n : ℕ) (e : Expr) (t f L : ℕ) → ApartFrom n e t f L → All (Spares (eqb t)) (buildFrom e t f)
+target-no-control-from n e t f L p =
     all-map (controls-map (λ c k. ne-eqb t c (λ q. omega (arith, k (omega arith))))) (buildFrom e t f) (build-controls e n t f (p .inputs))
 
 -- each gate is well formed on the lines
@@ -133,10 +133,10 @@ build-formed n (AND a b) t f L p =
     (toffoli-formed L f (second f a) t lines, tt))
 
 -- every line but t and those taken stays as it was
-pub build-leaves : (e : Expr) (t f : ℕ) (s : List ℕ) (i : ℕ) → i ≢ t → (f ≤ i → f + most e ≤ i) → bit (run (buildFrom e t f) s) i ≡ bit s i
-build-leaves e t f s i n h = run-other (buildFrom e t f) s i (build-misses e t f i n h)
+pub build-leaves-from : (e : Expr) (t f : ℕ) (s : List ℕ) (i : ℕ) → i ≢ t → (f ≤ i → f + most e ≤ i) → bit (run (buildFrom e t f) s) i ≡ bit s i
+build-leaves-from e t f s i n h = run-other (buildFrom e t f) s i (build-misses e t f i n h)
 
 -- and where the lines hold bits, so does every line but t and those still held
 pub build-frees : (n : ℕ) (e : Expr) (t f : ℕ) (s : List ℕ) → ApartFrom n e t f (length s) → Bits s
     → (i : ℕ) → i ≢ t → (f ≤ i → f + held e ≤ i) → bit (run (buildFrom e t f) s) i ≡ bit s i
-build-frees n e t f s p b i ne h = build-leaves e t f s i ne (λ q. omega (arith, h q, most-held e))
+build-frees n e t f s p b i ne h = build-leaves-from e t f s i ne (λ q. omega (arith, h q, most-held e))

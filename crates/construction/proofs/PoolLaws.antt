@@ -10,9 +10,8 @@ use lib.ListN.{length, getD, take, drop}
 use lib.Dec.{eqb}
 use borrow.Author.Tests.{eqb-true, eqb-false, ne-eqb}
 use Rattle.wire.specs.Checks.{lowestFrom}
-use Rattle.wire.proofs.CheckLaws.{by-test}
+use Rattle.wire.proofs.CheckLaws.{by-test, lowest-before, lowest-none}
 use Rattle.gate.specs.declared.gates.Gate.{Gate}
-use Rattle.gate.specs.declared.gates.Gate.the-variants.{Toffoli}
 use Rattle.program.specs.Exprs.{Expr, ZERO, ONE, INPUT, NOT, XOR, AND}
 use Rattle.construction.specs.Pools.{Pool, isAmong, allFree, lowestFree, takeLine, freeAll}
 use Rattle.construction.specs.Theorems.{LowestFree, treeGates, treeLines, firstBuilt, firstShares, shareOf}
@@ -38,14 +37,6 @@ lines-among : (f k j : ℕ) → j < k → isAmong (linesFrom f k) (f + j) ≡ tr
 unfolding linesFrom isAmong
 lines-among f zero j h = absurd (omega arith)
 lines-among f (suc k) j h = by-test (eqb (f + j) (f + k)) (λ e. rw e refl) (λ e. rw e (lines-among f k j (omega (arith, eqb-false (f + j) (f + k) e))))
-
--- a test that fails at none of k indices
-lowest-none : (test : ℕ → Bool) (i k : ℕ) → ((j : ℕ) → j < k → test (i + j) ≡ true) → lowestFrom test i k ≡ i + k
-unfolding lowestFrom
-lowest-none test i zero h = sym (add-zero i)
-lowest-none test i (suc k) h =
-    let here : test i ≡ true = rw add-zero at (h 0 (omega arith)) in
-    rw here (lowest-none test (suc i) k (λ j l. let e : suc i + j ≡ i + suc j = omega arith in rw e (h (suc j) (omega arith))) ∙ omega arith)
 
 -- the lowest free line is the one behind those in use
 lowest-behind : (f k m : ℕ) → lowestFree (inUse f k m) ≡ f + k
@@ -110,12 +101,12 @@ shares-are (e ∷ es) t f m = rw (share-is e t f m, shares-are es (t + 1) f (max
 
 -- a tree's gates and lines, where no line was taken yet
 module _ (e : Expr) (t f : ℕ) where
-  pub gates-are : treeGates e t f ≡ buildFrom e t f
-  gates-are = ap (λ (b : Built). b .gates) (tree-is e t f)
+  pub tree-gates : treeGates e t f ≡ buildFrom e t f
+  tree-gates = ap (λ (b : Built). b .gates) (tree-is e t f)
 
-  pub lines-are : treeLines e t f ≡ most e
+  pub tree-lines : treeLines e t f ≡ most e
   unfolding inUse
-  lines-are = ap (λ (b : Built). b .pool .most) (tree-is e t f)
+  tree-lines = ap (λ (b : Built). b .pool .most) (tree-is e t f)
 
   pub share-gates : share e t (allFree f) .gates ≡ shareFrom e t f
   share-gates = ap (λ (p : Pool). share e t p .gates) (all-free f) ∙ ap (λ (b : Built). b .gates) (share-is e t f 0)
@@ -222,17 +213,7 @@ among-few ls f (suc k) h =
     let last : isAmong ls (f + k) ≡ true = h k (omega arith) in
     omega (arith, less-length ls (f + k) last, among-few (less ls (f + k)) f k (λ j l. less-among ls (f + k) (f + j) (omega arith) (h j (omega arith))))
 
--- of the indices from i on, the lowest at which a test fails: it holds before
-lowest-before : (test : ℕ → Bool) (i k : ℕ) → (i ≤ lowestFrom test i k) × ((j : ℕ) → i ≤ j → j < lowestFrom test i k → test j ≡ true)
-unfolding lowestFrom
-lowest-before test i zero = (omega arith, λ j p q. absurd (omega arith))
-lowest-before test i (suc k) =
-    let rest = lowest-before test (suc i) k in
-    by-test (test i)
-    (λ e. rw e (omega (arith, rest .0), λ j p q. by-test (eqb i j) (λ d. rw (← eqb-true i j d) e) (λ d. rest .1 j (omega (arith, eqb-false i j d)) q)))
-    (λ e. rw e (omega arith, λ j p q. absurd (omega arith)))
-
--- where it holds at that index too, the test fails at none
+-- where a test holds at the lowest index at which it would fail, it fails at none
 lowest-end : (test : ℕ → Bool) (i k : ℕ) → test (lowestFrom test i k) ≡ true → lowestFrom test i k ≡ i + k
 unfolding lowestFrom
 lowest-end test i zero h = sym (add-zero i)

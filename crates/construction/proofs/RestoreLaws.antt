@@ -20,7 +20,7 @@ use Rattle.construction.specs.Theorems.{Zeros, CircuitFormed, Start, fir
 use Rattle.construction.proofs.Numbers.{shareFrom, sharesFrom, mostOf, ApartFrom}
 use Rattle.construction.proofs.PoolLaws.{circuit-is, lines-needed, first-shares, share-of, rest-shares}
 use Rattle.construction.proofs.ComputeLaws.{inputs-run}
-use Rattle.construction.proofs.ShareLaws.{share-formed, share-restores, share-computes}
+use Rattle.construction.proofs.ShareLaws.{share-formed-from, share-restores-from, share-computes}
 
 -- inputs, targets and work lines of several outputs are apart: the targets start at t, behind the inputs, and the work lines at f, behind the targets
 pub record AllApart (n : ℕ) (es : List Expr) (t f L : ℕ) : Type 0 where
@@ -44,7 +44,7 @@ pub shares-formed : (n : ℕ) (es : List Expr) (t f L : ℕ) → AllApart n es t
 unfolding sharesFrom
 shares-formed n [] t f L p = tt
 shares-formed n (e ∷ es) t f L p =
-    all-append _ (shareFrom e t f) _ (share-formed n e t f L (apart-first p)) (shares-formed n es (t + 1) f L (apart-rest p))
+    all-append _ (shareFrom e t f) _ (share-formed-from n e t f L (apart-first p)) (shares-formed n es (t + 1) f L (apart-rest p))
 
 -- and so is every gate of the circuit
 pub circuit-formed : CircuitFormed
@@ -58,7 +58,7 @@ module _ {n : ℕ} {e : Expr} {es : List Expr} {t f : ℕ} (s : List ℕ) (p : A
   rest-apart = rw (length-run (shareFrom e t f) s) (apart-rest p)
 
   rest-bits : Bits (run (shareFrom e t f) s)
-  rest-bits = run-bits (shareFrom e t f) s (share-formed n e t f (length s) (apart-first p)) b
+  rest-bits = run-bits (shareFrom e t f) s (share-formed-from n e t f (length s) (apart-first p)) b
 
   rest-runs : (i : ℕ) → bit (run (sharesFrom (e ∷ es) t f) s) i ≡ bit (run (sharesFrom es (t + 1) f) (run (shareFrom e t f) s)) i
   unfolding sharesFrom
@@ -72,7 +72,7 @@ shares-leave n [] t f s p b i h = refl
 shares-leave n (e ∷ es) t f s p b i h =
     rest-runs s p b i
     ∙ shares-leave n es (t + 1) f (run (shareFrom e t f) s) (rest-apart s p b) (rest-bits s p b) i (λ q. omega (arith, h (omega arith)))
-    ∙ share-restores n e t f s (apart-first p) b i (λ q. omega (arith, h (omega arith)))
+    ∙ share-restores-from n e t f s (apart-first p) b i (λ q. omega (arith, h (omega arith)))
 
 -- and where the work lines hold 0, each target holds its first bit XOR its output's value
 pub shares-compute : (n : ℕ) (es : List Expr) (t f : ℕ) (s : List ℕ) → AllApart n es t f (length s) → Bits s → Zeros f (mostOf es) s
@@ -86,7 +86,7 @@ shares-compute n (e ∷ es) t f s p b zs zero h =
     ∙ share-computes n e t f s (apart-first p) b (λ i q r. zs i q (omega arith)))
 shares-compute n (e ∷ es) t f s p b zs (suc k) h =
     let s₁ : List ℕ = run (shareFrom e t f) s in
-    let same : (i : ℕ) → i ≢ t → bit s₁ i ≡ bit s i = share-restores n e t f s (apart-first p) b in
+    let same : (i : ℕ) → i ≢ t → bit s₁ i ≡ bit s i = share-restores-from n e t f s (apart-first p) b in
     let at : t + suc k ≡ t + 1 + k = omega arith in
     rw at
     (rest-runs s p b (t + 1 + k)

@@ -5,7 +5,7 @@ use mathlib.Core.Path.{_≡_, refl, sym, ap, _∙_}
 use mathlib.Core.List.{List}
 use lib.ListN.{length}
 use Rattle.wire.specs.declared.refusals.Refusal.{Refusal}
-use Rattle.wire.specs.Answers.{Answer, result, refused, refuse, mapAnswer, numberOf}
+use Rattle.wire.specs.Answers.{Answer, result, refused, refuse, mapAnswer}
 use Rattle.wire.proofs.AnswerLaws.{mapped-twice, number-some}
 use Rattle.circuit.specs.declared.reader.CircuitHead.{CircuitHead}
 use Rattle.circuit.specs.Circuits.{Circuit, headOf}

@@ -11,7 +11,7 @@ use Rattle.compile.specs.Compiling.{compileFile, compileOf, compiled}
 use Rattle.compile.proofs.AcceptedLaws.{Accepted, accepted, legal}
 use Rattle.text.specs.Lines.{listingOf}
 use Rattle.text.specs.Putting.{Put, printed, Listable}
-use Rattle.text.proofs.ListingLaws.{LegalResult, listed-is, listable, put-whole}
+use Rattle.text.proofs.ListingLaws.{LegalResult, printed-is, listable, put-whole}
 
 module _ (f : List ℕ) (grant : ℕ) (sizes area₀ : List ℕ) where
   -- what compiling gives
@@ -38,4 +38,4 @@ module _ (f : List ℕ) (grant : ℕ) (sizes area₀ : List ℕ) where
     pub lists : length sizes ≡ 4096 → length area₀ ≡ 64028 → {r : ℕ} {new : List ℕ} → Put (printed answer area) 0 r buffer new
         → (r ≡ length (listingOf f grant)) × (new ≡ listingOf f grant ++ drop r buffer)
     unfolding compileOf
-    lists e k p = rw (listed-is x legal-result area₀ answer area a s, e, k) at (put-whole (can-list .fits) p)
+    lists e k p = rw (printed-is x legal-result area₀ answer area a s, e, k) at (put-whole (can-list .fits) p)

@@ -62,9 +62,9 @@ module _ (n r : ℕ) (f : Fewest 10 1 n r) where
   fewest-most h = by-test (leb r 20) (leb-true r 20) (λ e. absurd (omega (arith, below-fewest 20 (omega arith) (leb-false r 20 e))))
 
   -- the fewest digits that hold a number are as many as its digits
-  places-is : n < 10 ^ 20 → digitCount n ≡ r
+  digits-are : n < 10 ^ 20 → digitCount n ≡ r
   unfolding digitCount
-  places-is h =
+  digits-are h =
       lowest-is (reaches n) 1 19 r (f .0) (fewest-most h)
       (λ j some less. le-leb (10 ^ j) n (below-fewest j some less))
       (lt-leb (10 ^ r) n (f .1))
@@ -72,17 +72,17 @@ module _ (n r : ℕ) (f : Fewest 10 1 n r) where
   -- and those digits are the number in decimal
   pub decimal-is : n < 10 ^ 20 → digits 10 r n ≡ decimal n
   unfolding decimal
-  decimal-is h = ap (λ (k : ℕ). digits 10 k n) (sym (places-is h))
+  decimal-is h = ap (λ (k : ℕ). digits 10 k n) (sym (digits-are h))
 
 -- a number below 10 ^ k takes at most k digits
-places-below : (n k : ℕ) → 1 ≤ k → n < 10 ^ k → digitCount n ≤ k
+digits-below : (n k : ℕ) → 1 ≤ k → n < 10 ^ k → digitCount n ≤ k
 unfolding digitCount
-places-below n k some h = lowest-most (reaches n) 1 19 k some (lt-leb (10 ^ k) n h)
+digits-below n k some h = lowest-most (reaches n) 1 19 k some (lt-leb (10 ^ k) n h)
 
 -- and every number at most 20
-places-most : (n : ℕ) → digitCount n ≤ 20
+digits-most : (n : ℕ) → digitCount n ≤ 20
 unfolding digitCount
-places-most n = lowest-within (reaches n) 1 19
+digits-most n = lowest-within (reaches n) 1 19
 
 digits-length : (b k n : ℕ) → length (digits b k n) ≡ k
 digits-length b zero n = refl
@@ -94,8 +94,8 @@ unfolding field decimal
 field-length n = omega (arith, digits-length 10 (digitCount n) n)
 
 pub field-most : (n : ℕ) → length (field n) ≤ 21
-field-most n = omega (arith, field-length n, places-most n)
+field-most n = omega (arith, field-length n, digits-most n)
 
 -- the field of a 16-bit number takes at most six
 pub field-small : (n : ℕ) → n < 65536 → length (field n) ≤ 6
-field-small n h = omega (arith, field-length n, places-below n 5 (omega arith) (omega arith))
+field-small n h = omega (arith, field-length n, digits-below n 5 (omega arith) (omega arith))

@@ -70,9 +70,9 @@ module _ (L : ℕ) (small : L ≤ 65536) where
       omega (arith, length-append (gateLine g) (gateLines gs), gate-line-most g (w .0), gate-lines-most gs (w .1))
 
 -- the first line takes at most 96 bytes
-head-line-most : (h : CircuitHead) → length (firstLine h) ≤ 96
+first-line-most : (h : CircuitHead) → length (firstLine h) ≤ 96
 unfolding firstLine
-head-line-most h =
+first-line-most h =
     let kinds : List ℕ = h .inputs ∷ h .outputs ∷ h .work ∷ [] in
     let last : List ℕ = line (ascii " gates") (h .gates ∷ []) in
     omega (
@@ -108,7 +108,7 @@ listing-most (result c) legal =
     omega (
       arith,
       length-append (firstLine (headOf c)) (gateLines (c .gates)),
-      head-line-most (headOf c),
+      first-line-most (headOf c),
       gate-lines-most (lineCount c) (omega arith) (c .gates) (l .formed),
     )
 listing-most (refused n p) legal = omega (arith, refused-line-most n p)
@@ -133,15 +133,15 @@ module _ (x : Answer Circuit) (legal : LegalResult x) (area₀ : List ℕ) where
   file-there c was s = s ∙ ap (λ (y : Answer Circuit). areaAfter y area₀) was
 
   -- what is printed is the listing of x
-  pub listed-is : (answer : Compiled) (area : List ℕ) → compiled answer ≡ mapAnswer headOf x → area ≡ areaAfter x area₀ → printed answer area ≡ listing x
+  pub printed-is : (answer : Compiled) (area : List ℕ) → compiled answer ≡ mapAnswer headOf x → area ≡ areaAfter x area₀ → printed answer area ≡ listing x
   unfolding printed listing
-  listed-is (Written head) area a s =
+  printed-is (Written head) area a s =
       let k = came headOf x head a in
       let c : Circuit = k .from in
       ap₂ (λ (h : CircuitHead) (f : List ℕ). firstLine h ++ gateLines (gatesIn (bodyIn f (h .gates)))) (k .reads) (file-there c (k .was) s)
       ∙ ap (λ (gs : List Gate). firstLine (headOf c) ++ gateLines gs) (body-gates c (legal c (k .was)) (drop (length (circuitFile c)) area₀))
       ∙ ap listing (sym (k .was))
-  listed-is (Refused why) area a s = ap listing (sym (came-refused headOf x (numberOf why) (placeOf why) a))
+  printed-is (Refused why) area a s = ap listing (sym (came-refused headOf x (numberOf why) (placeOf why) a))
 
   gates-there : (answer : Compiled) (area : List ℕ) → compiled answer ≡ mapAnswer headOf x → area ≡ areaAfter x area₀
       → (head : CircuitHead) → answer ≡ Written head → fileLength (head .gates) ≤ length area
@@ -161,7 +161,7 @@ module _ (x : Answer Circuit) (legal : LegalResult x) (area₀ : List ℕ) where
   listable answer area buffer a s n =
       record {
         there = gates-there answer area a s;
-        fits = record { fits = omega (arith, ap length (listed-is answer area a s), listing-most x legal) };
+        fits = record { fits = omega (arith, ap length (printed-is answer area a s), listing-most x legal) };
       }
 
 -- a text put at the start of a buffer stands there, with what stood behind it

@@ -53,8 +53,8 @@ fn put_line(out: &mut [u8], at: usize, word: &[u8], numbers: &[u64]) -> usize
     ensures { λ r. ⌜ Put (line (now (word .entry)) (now (numbers .entry))) at r (now (out .entry)) (now (out .exit)) ⌝ }
 {
     let after_word = put_word(out, at, word);
-    let after_fields = put_numbers(out, after_word, numbers);
-    put_word(out, after_fields, b"\n")
+    let after_numbers = put_numbers(out, after_word, numbers);
+    put_word(out, after_numbers, b"\n")
 }
 
 // Puts the line of a gate: its letter, its controls and its target.

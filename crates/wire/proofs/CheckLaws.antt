@@ -2,10 +2,10 @@
 use Prim.Native.Nat.{ℕ, zero, suc, _+_, _-_, _<_, _≤_}
 use native.Mathlib.Omega.{arith}
 use native.Mathlib.Nat.{zero-add, add-zero}
-use native.Mathlib.Numerals.{add-one}
 use mathlib.Core.Path.{_≡_, refl, sym, ap, ap₂, _∙_}
 use mathlib.Core.Bool.{Bool, true, false, cond, _&&_, false≢true}
-use borrow.Author.Tests.{eqb-true, eq-eqb}
+use lib.Dec.{eqb}
+use borrow.Author.Tests.{eqb-true, eqb-false, eq-eqb}
 use Rattle.wire.specs.Checks.{lowestFrom, lowest, allBelow}
 
 -- where both hold, each holds
@@ -60,34 +60,32 @@ module _ (test : ℕ → Bool) where
       let stop : lowestFrom test i (n - i) ≡ i = ap (lowestFrom test i) k in
       omega (arith, sym (p .left) ∙ stop, p .within)
 
-  lowest-here : (i k : ℕ) → lowestFrom test i (suc k) ≡ i + suc k → test i ≡ true
+  -- of the k indices from i on the lowest at which the test fails: it holds before
+  pub lowest-before : (i k : ℕ) → (i ≤ lowestFrom test i k) × ((j : ℕ) → i ≤ j → j < lowestFrom test i k → test j ≡ true)
   unfolding lowestFrom
-  lowest-here i k e = by-test (test i) (λ t. t) (λ t. let z : i ≡ i + suc k = simp t at e in absurd (omega arith))
+  lowest-before i zero = (omega arith, λ j p q. absurd (omega arith))
+  lowest-before i (suc k) =
+      let rest = lowest-before (suc i) k in
+      by-test (test i)
+      (λ e. rw e (omega (arith, rest .0), λ j p q. by-test (eqb i j) (λ d. rw (← eqb-true i j d) e) (λ d. rest .1 j (omega (arith, eqb-false i j d)) q)))
+      (λ e. rw e (omega arith, λ j p q. absurd (omega arith)))
 
-  lowest-later : (i k : ℕ) → lowestFrom test i (suc k) ≡ i + suc k → lowestFrom test (suc i) k ≡ suc i + k
+  -- and where it holds at each of them, it fails at none
+  pub lowest-none : (i k : ℕ) → ((j : ℕ) → j < k → test (i + j) ≡ true) → lowestFrom test i k ≡ i + k
   unfolding lowestFrom
-  lowest-later i k e = let z : lowestFrom test (suc i) k ≡ i + suc k = simp (lowest-here i k e) at e in omega arith
+  lowest-none i zero h = sym (add-zero i)
+  lowest-none i (suc k) h =
+      let here : test i ≡ true = rw add-zero at (h 0 (omega arith)) in
+      rw here (lowest-none (suc i) k (λ j l. let e : suc i + j ≡ i + suc j = omega arith in rw e (h (suc j) (omega arith))) ∙ omega arith)
 
-  lowest-at : (i k : ℕ) → lowestFrom test i k ≡ i + k → (j : ℕ) → j < k → test (i + j) ≡ true
-  lowest-at i zero e j h = absurd (omega arith)
-  lowest-at i (suc k) e zero h = rw (add-zero i) (lowest-here i k e)
-  lowest-at i (suc k) e (suc j) h =
-      let n : i + suc j ≡ suc i + j = omega arith in
-      rw n (lowest-at (suc i) k (lowest-later i k e) j (omega arith))
-
-  -- where the test fails at no index below k, it holds at each
+  -- the same of all indices below k
   pub all-below : (k : ℕ) → allBelow test k ≡ true → (j : ℕ) → j < k → test j ≡ true
-  all-below k e j h =
-      let n : j ≡ 0 + j = omega arith in
-      rw n (lowest-at 0 k (omega (arith, eqb-true (lowest test k) k e)) j h)
+  all-below k e j h = lowest-before 0 k .1 j (omega arith) (omega (arith, eqb-true (lowest test k) k e))
 
-  passed-below : (k : ℕ) → ((j : ℕ) → j < k → test j ≡ true) → (i : ℕ) → i ≤ k → Passed test k i
-  passed-below k h zero l = passed-start k
-  passed-below k h (suc i) l = rw (← add-one i) (passed-next (passed-below k h i (omega arith)) (omega arith) (h i (omega arith)))
-
-  -- and where it holds at each, it fails at none
   pub below-all : (k : ℕ) → ((j : ℕ) → j < k → test j ≡ true) → allBelow test k ≡ true
-  below-all k h = eq-eqb (lowest test k) k (passed-all (passed-below k h k (omega arith)) (omega arith))
+  below-all k h =
+      eq-eqb (lowest test k) k
+      (lowest-none 0 k (λ j l. let z : 0 + j ≡ j = omega arith in rw z (h j l)) ∙ omega arith)
 
 lowestFrom-same : (f g : ℕ → Bool) (i k : ℕ) → ((j : ℕ) → j < k → f (i + j) ≡ g (i + j)) → lowestFrom f i k ≡ lowestFrom g i k
 unfolding lowestFrom

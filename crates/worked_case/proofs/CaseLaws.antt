@@ -89,8 +89,8 @@ case-range n =
     }
 
 -- and an area of 132 bytes has room for it
-pub case-writable : (area : List ℕ) → length area ≡ 132 → CircuitRoom nodes outputs 4 area
-case-writable area e =
+pub case-room : (area : List ℕ) → length area ≡ 132 → CircuitRoom nodes outputs 4 area
+case-room area e =
     record {
       ordered = ordered;
       named = λ k h. let z : k ≡ 0 = omega arith in rw z (omega arith);

@@ -212,6 +212,17 @@ mod tests {
         lines
     }
 
+    /// A line that was given back is taken before any higher one, and does not count while it is free.
+    #[test]
+    fn the_lowest_line_not_in_use_is_taken() {
+        let mut lines = WorkLines { first: 10, in_use: vec![true, false, true, false], most: 2 };
+        assert_eq!((lines.take_lowest_free(), lines.most), (11, 3));
+        assert_eq!((lines.take_lowest_free(), lines.most), (13, 4));
+        assert_eq!((lines.take_lowest_free(), lines.most), (14, 5));
+        lines.in_use = vec![false; 5];
+        assert_eq!((lines.take_lowest_free(), lines.most), (10, 5));
+    }
+
     #[test]
     fn the_whole_case() {
         let and = program(2, &[Node::Input(0), Node::Input(1), Node::And(0, 1)], &[2]);

@@ -6,7 +6,7 @@ use borrow.Author.Needs.{needs}
 use Rattle.circuit.specs.Steps.{putGates}
 use Rattle.construction.specs.Construction.{circuitGates}
 use Rattle.construct.specs.Tables.{treesIn}
-use Rattle.compile.proofs.BodyLaws.{writable-same}
+use Rattle.compile.proofs.BodyLaws.{room-same}
 use Rattle.compile.proofs.write_circuit.Statement.{statement}
 use Rattle.compile.proofs.write_circuit.Tie as tie
 
@@ -14,7 +14,7 @@ write-head-requires : tie.Need-write-head-requires
 write-head-requires c κs = let p = c .before .before .before .before .pre in (p .0, omega (arith, p .1 .room))
 
 write-shares-requires : tie.Need-write-shares-requires
-write-shares-requires c κs = writable-same (c .before .before .before .before .before .before .before .before .pre .1) (c .before .before .before .write-head .kept .0)
+write-shares-requires c κs = room-same (c .before .before .before .before .before .before .before .before .pre .1) (c .before .before .before .write-head .kept .0)
 
 same-length : tie.Need-same-length
 same-length c = search needs

@@ -2,7 +2,7 @@ use borrow.Author.Needs.{needs}
 use Rattle.worked_case.proofs.main.Statement.{statement}
 use Rattle.worked_case.proofs.main.Tie as tie
 use native.Mathlib.Omega.{arith}
-use Rattle.worked_case.proofs.CaseLaws.{case-countable, case-range, case-writable}
+use Rattle.worked_case.proofs.CaseLaws.{case-countable, case-range, case-room}
 
 count-shares-requires : tie.Need-count-shares-requires
 count-shares-requires c κs = case-countable
@@ -17,7 +17,7 @@ slice-aggregate-write-shares : tie.Need-slice-aggregate-write-shares
 slice-aggregate-write-shares c = search needs
 
 write-shares-requires : tie.Need-write-shares-requires
-write-shares-requires c κs = case-writable (c .before .before .before .before .write-head .last .0) (c .before .before .before .before .write-head .kept .0)
+write-shares-requires c κs = case-room (c .before .before .before .before .write-head .last .0) (c .before .before .before .before .write-head .kept .0)
 
 slice-aggregate-write-all : tie.Need-slice-aggregate-write-all
 slice-aggregate-write-all c = search needs

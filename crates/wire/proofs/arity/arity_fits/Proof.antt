@@ -10,12 +10,12 @@ use Rattle.wire.proofs.arity.arity_fits.Statement.{statement}
 use Rattle.wire.proofs.arity.arity_fits.Tie as tie
 
 -- the tests, put together step by step
-counts-tests : (head : List ℕ) {n m : ℕ} {outputs r : Bool} → n ≡ at16 head 0 → m ≡ at16 head 2
+arity-tests : (head : List ℕ) {n m : ℕ} {outputs r : Bool} → n ≡ at16 head 0 → m ≡ at16 head 2
     → outputs ≡ (leb 1 m && leb m 64)
     → r ≡ (leb n 64 && outputs)
     → r ≡ arityFits head
 unfolding arityFits
-counts-tests head pn pm t₁ t₀ =
+arity-tests head pn pm t₁ t₀ =
     t₀ ∙ ap₂ _&&_ (ap (λ (n : ℕ). leb n 64) pn) (t₁ ∙ ap (λ (m : ℕ). leb 1 m && leb m 64) pm)
 
 get16-requires : tie.Need-get16-requires
@@ -32,7 +32,7 @@ both-requires-2 c κs = search needs
 
 returns : tie.Need-returns
 returns c =
-    counts-tests (c .before .before .before .before .before .args .head .now) (c .before .before .get162 .ensures) (c .before .before .before .get16 .ensures)
+    arity-tests (c .before .before .before .before .before .args .head .now) (c .before .before .get162 .ensures) (c .before .before .before .get16 .ensures)
     (c .before .both .ensures) (c .both2 .ensures)
 
 pub arity-fits-spec : {M : Type 1} → statement M
