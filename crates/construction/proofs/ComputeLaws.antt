@@ -3,8 +3,8 @@ use Prim.Native.Nat.{ℕ, _+_, _*_, _<_, _≤_}
 use native.Mathlib.Omega.{arith}
 use mathlib.Core.Path.{_≡_, sym, ap, ap₂, _∙_}
 use mathlib.Core.List.{List, [], _∷_, _++_}
-use lib.ListN.{length, take, length-take}
-use lib.Seq.{getD-take, ext-getD}
+use lib.ListN.{length, take}
+use lib.Seq.{getD-take}
 use Rattle.wire.specs.Bits.{xorBit, bit, Bits}
 use Rattle.wire.proofs.BitLaws.{xor-end, xor-start, xor-assoc, bit-below, bits-take}
 use Rattle.gate.specs.declared.gates.Gate.{Gate}
