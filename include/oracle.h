@@ -86,7 +86,7 @@ oracle_answer oracle_evaluate(const uint8_t *file, size_t file_length,
  * short for them. The program file is only read.
  *
  * Stack: the construction calls itself, up to 4,096 deep. The deepest programs that were tried took
- * 1,052,672 bytes; lend a thread at least 2 MiB.
+ * 790,528 bytes; lend a thread at least 2 MiB.
  */
 oracle_answer oracle_compile(const uint8_t *file, size_t file_length, uint64_t grant,
                              uint16_t *sizes, size_t sizes_length,

@@ -7,24 +7,24 @@ use mathlib.Core.Bool.{Bool, true, false}
 use mathlib.Core.List.{List}
 use lib.ListN.{length}
 use borrow.Author.Tests.{eq-eqb, ne-eqb}
-use Rattle.wire.specs.Answers.{Answer, result, refuse, check, checkEach, mapAnswer, numberOf, placeOf}
+use Rattle.refusal.specs.Answers.{Answer, result, refuse, check, checkEach, mapAnswer, numberOf, placeOf}
 use Rattle.wire.specs.Bits.{Bits, bitsFit}
-use Rattle.wire.specs.Checks.{allBelow, lowest}
-use Rattle.wire.specs.Contents.{tableFits, entriesFit, bodyOf}
-use Rattle.wire.specs.Steps.{Laid}
-use Rattle.wire.specs.declared.refusals.Refusal.{Refusal}
-use Rattle.wire.specs.declared.refusals.Refusal.the-variants as cause
-use Rattle.wire.proofs.AnswerLaws.{checked, checked-next, same-result, Came, came, came-refused, led, Never, never-result, never-check, never-then}
+use Rattle.refusal.specs.Checks.{allBelow, lowest}
+use Rattle.contents.specs.Contents.{tableFits, entriesFit, bodyOf}
+use Rattle.contents.specs.Steps.{Laid}
+use Rattle.refusal.specs.declared.causes.Refusal.{Refusal}
+use Rattle.refusal.specs.declared.causes.Refusal.the-variants as cause
+use Rattle.refusal.proofs.AnswerLaws.{checked, checked-next, same-result, Came, came, came-refused, led, Never, never-result, never-check, never-then}
 use Rattle.wire.proofs.BitLaws.{bits-count, bits-are}
-use Rattle.wire.proofs.CheckLaws.{all-below}
+use Rattle.refusal.proofs.CheckLaws.{all-below}
 use Rattle.gate.specs.Gates.{WellFormed, All}
-use Rattle.gate.specs.GateBytes.{gateAt, gateFits}
+use Rattle.gate_bytes.specs.GateBytes.{gateAt, gateFits}
 use Rattle.gate.proofs.AllLaws.{all-tabulate}
-use Rattle.gate.proofs.GateLaws.{fits-formed}
+use Rattle.gate_bytes.proofs.GateLaws.{fits-formed}
 use Rattle.circuit.specs.declared.reader.CircuitHead.{CircuitHead}
 use Rattle.circuit.specs.declared.reader.CircuitRead.{CircuitRead}
 use Rattle.circuit.specs.declared.reader.CircuitRead.the-variants.{Good, Refused}
-use Rattle.circuit.specs.Circuits.{Circuit, lineCount, headOf, headLines, Legal, gatesIn}
+use Rattle.circuit.specs.Circuits.{Circuit, lineCount, headOf, headLines, mostLines, Legal, gatesIn}
 use Rattle.circuit.specs.Format.{tags}
 use Rattle.circuit.specs.Reading.{lengthsFit, rangesFit, headIn, readHead, circuitOf, readCircuit, readWithLines, circuitRead}
 use Rattle.circuit.proofs.GateBodyLaws.{gates-count}
@@ -196,7 +196,7 @@ module _ (f lines : List ℕ) {r : CircuitRead} (e : circuitRead r ≡ mapAnswer
     abbrev good-came : Came headOf (readCircuit f) h
     good-came = came headOf (readCircuit f) h (sym (ap circuitRead g) ∙ e)
 
-    pub good-lines-most : headLines h ≤ 1152
+    pub good-lines-most : headLines h ≤ mostLines
     good-lines-most =
         let a = accepted f (good-came .from) (good-came .was) in
         omega (arith, ap headLines (good-came .reads ∙ head-is f (good-came .from) a), lines-most f (a .headed))

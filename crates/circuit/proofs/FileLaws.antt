@@ -3,31 +3,31 @@ use Prim.Native.Nat.{ℕ, zero, suc, _+_, _*_, _/_, _%_, _<_, _≤_}
 use native.Mathlib.Omega.{arith}
 use mathlib.Core.Path.{_≡_, refl, sym, ap, ap₂, _∙_, subst}
 use mathlib.Core.Bool.{true}
-use mathlib.Core.List.{List, [], _∷_, _++_, append-assoc}
-use lib.ListN.{length, getD, take, drop, length-drop, take-append-drop, drop-of-length-le}
-use lib.Seq.{take-at, drop-at, take-all, drop-drop}
+use mathlib.Core.List.{List, [], _∷_, _++_, append-assoc, append-nil, flatMap}
+use lib.ListN.{length, getD, drop, drop-of-length-le}
+use lib.Seq.{take-at, take-all}
 use borrow.Author.Tests.{eq-eqb, le-leb}
-use Rattle.wire.specs.Answers.{result}
+use Rattle.wire.specs.Limits.{mostGates, mostInputs, mostOutputs, mostWork}
+use Rattle.refusal.specs.Answers.{result}
 use Rattle.wire.specs.Bytes.{at16, bytes16, Bytes}
-use Rattle.wire.specs.Contents.{tableLength, tableFits, entriesFit, entryStart, entryLength, bodyOf, contentsBytes}
-use Rattle.wire.specs.Steps.{total}
-use Rattle.wire.specs.Arity.{inputsOf, outputsOf, arityFits}
+use Rattle.contents.specs.Contents.{tableFits, entriesFit, entryStart, entryLength, bodyOf, contentsBytes}
+use Rattle.contents.specs.Arity.{inputsOf, outputsOf, arityFits}
+use Rattle.contents.specs.Steps.{total}
 use Rattle.wire.specs.Lists.{tabulateFrom, tabulate}
 use Rattle.wire.proofs.ByteLaws.{number16, bytes-take, bytes-drop, drop16}
-use Rattle.wire.proofs.CheckLaws.{below-all}
-use Rattle.wire.proofs.WrittenLaws.{Whole, contents-length, table-back, entries-back, length-back, only-contents}
-use Rattle.gate.specs.GateBytes.{gatesBytes, gateAt, gateFits}
-use Rattle.gate.proofs.ByteLaws.{gates-length}
-use Rattle.gate.proofs.ReadBackLaws.{gates-fit, gates-only}
+use Rattle.refusal.proofs.CheckLaws.{below-all}
+use Rattle.contents.proofs.WrittenLaws.{Whole, table-back, entries-back, length-back, body-back, only-contents}
+use Rattle.gate_bytes.specs.GateBytes.{gatesBytes, gateAt, gateFits}
+use Rattle.gate_bytes.proofs.ByteLaws.{gates-length}
+use Rattle.gate_bytes.proofs.ReadBackLaws.{gates-fit, gates-only}
 use Rattle.circuit.specs.declared.reader.CircuitHead.{CircuitHead}
 use Rattle.circuit.specs.Circuits.{Circuit, Legal, lineCount, headOf, headLines}
-use Rattle.circuit.specs.Format.{tags, headLength, firstGate, headBytes, openingBytes, circuitFile}
+use Rattle.circuit.specs.Format.{tags, headLength, headBytes, openingBytes, circuitFile}
 use Rattle.circuit.specs.Reading.{workOf, gatesOf, lengthsFit, rangesFit, headIn, readHead, circuitOf, readCircuit}
 use Rattle.circuit.specs.Theorems.{ReadsBack, OnlyWriting, SameBytes}
 use Rattle.circuit.proofs.AcceptedLaws.{Accepted, accepted, legal}
 use Rattle.circuit.proofs.GateBodyLaws.{gates-count, written-gates}
-use Rattle.circuit.proofs.ReadingLaws.{Placed, placed, Sized, head-long, gates-long}
-use Rattle.circuit.proofs.WriterLaws.{opening-length}
+use Rattle.circuit.proofs.ReadingLaws.{Sized, head-long, gates-long}
 
 -- the lengths of the bodies
 abbrev lengthsIn : Circuit → List ℕ
@@ -63,9 +63,6 @@ module _ (c : Circuit) (l : Legal c) where
   file-entries : entriesFit tags (circuitFile c) ≡ true
   file-entries = rw (file-split c) (entries-back whole)
 
-  file-placed : Placed (circuitFile c)
-  file-placed = placed (circuitFile c) file-entries
-
   -- the bodies are as long as was written
   pub head-entry : entryLength (circuitFile c) 0 ≡ headLength
   head-entry = rw (file-split c) (length-back whole 0 (omega arith))
@@ -75,18 +72,17 @@ module _ (c : Circuit) (l : Legal c) where
 
   -- and hold what was written
   pub head-body : bodyOf (circuitFile c) 0 ≡ headBytes (headOf c)
+  unfolding total
   head-body =
-      ap₂ (λ (n at : ℕ). take n (drop at (circuitFile c))) head-entry (file-placed .first)
-      ∙ ap (λ (f : List ℕ). take headLength (drop (tableLength 2) f)) (file-split c)
-      ∙ ap (take headLength) (drop-at (contentsBytes tags (lengthsIn c)) (bodiesOf c) (tableLength 2) (contents-length tags (lengthsIn c) refl))
+      ap (λ (f : List ℕ). bodyOf f 0) (file-split c)
+      ∙ body-back whole 0 (omega arith)
       ∙ take-at (headBytes (headOf c)) (gatesBytes (c .gates)) headLength refl
 
   pub gates-body : bodyOf (circuitFile c) 1 ≡ gatesBytes (c .gates)
-  unfolding circuitFile
+  unfolding total
   gates-body =
-      let start : entryStart (circuitFile c) 1 ≡ firstGate = omega (arith, file-placed .first, file-placed .second, head-entry) in
-      ap₂ (λ (n at : ℕ). take n (drop at (circuitFile c))) gates-entry start
-      ∙ ap (take (8 * length (c .gates))) (drop-at (openingBytes (headOf c)) (gatesBytes (c .gates)) firstGate (opening-length (headOf c)))
+      ap (λ (f : List ℕ). bodyOf f 1) (file-split c)
+      ∙ body-back whole 1 (omega arith)
       ∙ take-all (8 * length (c .gates)) (gatesBytes (c .gates)) (omega (arith, gates-length (c .gates)))
 
   -- its numbers read back
@@ -110,7 +106,7 @@ module _ (c : Circuit) (l : Legal c) where
       rw (
         eq-eqb (entryLength f 0) headLength head-entry,
         eq-eqb (entryLength f 1 % 8) 0 (omega (arith, gates-entry)),
-        le-leb (gatesOf f) 8000 (omega (arith, count-back)),
+        le-leb (gatesOf f) mostGates (omega (arith, count-back)),
       )
 
   ranges-back : rangesFit (circuitFile c) ≡ true
@@ -118,10 +114,10 @@ module _ (c : Circuit) (l : Legal c) where
   ranges-back =
       let f : List ℕ = circuitFile c in
       rw (
-        le-leb (inputsOf f) 64 (omega (arith, inputs-back)),
+        le-leb (inputsOf f) mostInputs (omega (arith, inputs-back)),
         le-leb 1 (outputsOf f) (omega (arith, outputs-back)),
-        le-leb (outputsOf f) 64 (omega (arith, outputs-back)),
-        le-leb (workOf f) 1024 (omega (arith, work-back)),
+        le-leb (outputsOf f) mostOutputs (omega (arith, outputs-back)),
+        le-leb (workOf f) mostWork (omega (arith, work-back)),
       )
 
   -- reading the head of a written circuit gives its numbers
@@ -183,17 +179,6 @@ module _ (f : List ℕ) (bytes : Bytes f) (c : Circuit) (a : Accepted f c) where
       (subst (λ (h : CircuitHead). (i : ℕ) → i < h .gates → gateFits (headLines h) (bodyOf f 1) i ≡ true) (a .headed .is) (a .gates-fit))
       ∙ ap (λ (k : ℕ). gatesBytes (tabulate (gateAt (bodyOf f 1)) k)) (sym counted)
 
-  -- the bodies are all that stands behind the table
-  only-bodies : drop (tableLength 2) f ≡ bodyOf f 0 ++ bodyOf f 1
-  only-bodies =
-      let l : Placed f = placed f (a .headed .entries) in
-      let start : entryStart f 1 ≡ firstGate = omega (arith, l .first, l .second, in-order .head) in
-      let last : length (drop (entryStart f 1) f) ≤ entryLength f 1 = omega (arith, length-drop (entryStart f 1) f, l .last) in
-      let first : bodyOf f 0 ≡ take headLength (drop (tableLength 2) f) = ap₂ (λ (n at : ℕ). take n (drop at f)) (in-order .head) (l .first) in
-      let second : bodyOf f 1 ≡ drop headLength (drop (tableLength 2) f) =
-      take-all (entryLength f 1) (drop (entryStart f 1) f) last ∙ ap (λ (at : ℕ). drop at f) start ∙ sym (drop-drop headLength (tableLength 2) f) in
-      sym (take-append-drop headLength (drop (tableLength 2) f)) ∙ ap₂ _++_ (sym first) (sym second)
-
   -- the entries give the lengths of its circuit's bodies
   only-lengths : tabulate (entryLength f) 2 ≡ lengthsIn held
   unfolding tabulateFrom
@@ -201,10 +186,10 @@ module _ (f : List ℕ) (bytes : Bytes f) (c : Circuit) (a : Accepted f c) where
 
   -- the file is the writing of its circuit
   only-file : f ≡ circuitFile held
-  unfolding circuitOf headIn
+  unfolding circuitOf headIn flatMap tabulateFrom
   only-file =
       only-contents tags f bytes (a .headed .table) (a .headed .entries)
-      ∙ ap₂ (λ (ls s : List ℕ). contentsBytes tags ls ++ s) only-lengths (only-bodies ∙ ap₂ _++_ only-head only-gates)
+      ∙ ap₂ (λ (ls s : List ℕ). contentsBytes tags ls ++ s) only-lengths (ap₂ _++_ only-head (append-nil (bodyOf f 1) ∙ only-gates))
       ∙ sym (file-split held)
 
 -- an accepted file is the writing of what it gives

@@ -10,9 +10,9 @@ use Rattle.gate.specs.declared.gates.Gate.{Gate}
 use Rattle.gate.specs.declared.gates.Gate.the-variants.{Not}
 use Rattle.gate.specs.Gates.{WellFormed, All}
 use Rattle.wire.specs.Lists.{tabulate}
-use Rattle.gate.specs.GateBytes.{gatesBytes, gateAt}
-use Rattle.gate.proofs.ByteLaws.{gates-length}
-use Rattle.gate.proofs.ReadBackLaws.{gates-back}
+use Rattle.gate_bytes.specs.GateBytes.{gatesBytes, gateAt}
+use Rattle.gate_bytes.proofs.ByteLaws.{gates-length}
+use Rattle.gate_bytes.proofs.ReadBackLaws.{gates-back}
 use Rattle.gate.proofs.AllLaws.{all-at}
 use Rattle.circuit.specs.Circuits.{gatesIn}
 

@@ -1,5 +1,5 @@
 pub mod AcceptedLaws
 pub mod FileLaws
+pub mod FormatLaws
 pub mod GateBodyLaws
 pub mod ReadingLaws
-pub mod WriterLaws

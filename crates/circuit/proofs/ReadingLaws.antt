@@ -1,55 +1,52 @@
 -- Laws of reading a circuit file: what each test that held says. Assumes nothing.
-use Prim.Native.Nat.{ℕ, _+_, _*_, _/_, _%_, _≤_}
+use Prim.Native.Nat.{ℕ, _*_, _/_, _%_, _≤_}
 use native.Mathlib.Omega.{arith}
 use mathlib.Core.Path.{_≡_, refl, sym, ap, ap₂, _∙_}
 use mathlib.Core.Bool.{Bool, true, _&&_}
-use mathlib.Core.List.{List, [], _∷_}
+use mathlib.Core.List.{List}
 use lib.ListN.{length}
 use lib.Dec.{eqb, leb}
 use borrow.Author.Tests.{eqb-true, leb-true}
-use Rattle.wire.specs.Answers.{Answer, result, check}
-use Rattle.wire.specs.Checks.{lowest}
-use Rattle.wire.specs.Contents.{tableLength, tableFits, entriesFit, entryStart, entryLength, bodyOf}
-use Rattle.wire.specs.Steps.{Laid}
-use Rattle.wire.specs.Arity.{inputsOf, outputsOf, arityFits}
-use Rattle.wire.specs.declared.refusals.Refusal.the-variants as cause
-use Rattle.wire.proofs.AnswerLaws.{checked, checked-next, same-result}
-use Rattle.wire.proofs.CheckLaws.{both-first, both-second}
-use Rattle.wire.proofs.ContentsLaws.{body-length, entry-first, entries-end, laid}
-use Rattle.gate.specs.GateBytes.{gateFits}
+use Rattle.wire.specs.Limits.{mostGates, mostInputs, mostOutputs, mostWork}
+use Rattle.refusal.specs.Answers.{Answer, result, check}
+use Rattle.refusal.specs.Checks.{lowest}
+use Rattle.contents.specs.Contents.{tableFits, entriesFit, entryLength, bodyOf}
+use Rattle.contents.specs.Arity.{inputsOf, outputsOf, arityFits}
+use Rattle.contents.specs.declared.reader.ContentsRead.{ContentsRead}
+use Rattle.contents.specs.declared.reader.ContentsRead.the-variants.{Good}
+use Rattle.contents.specs.Steps.{readContents, contentsRead, Laid}
+use Rattle.refusal.specs.declared.causes.Refusal.the-variants as cause
+use Rattle.refusal.proofs.AnswerLaws.{checked, checked-next, same-result}
+use Rattle.refusal.proofs.CheckLaws.{both-first, both-second}
+use Rattle.contents.proofs.ContentsLaws.{body-length, laid, contents-next}
+use Rattle.gate_bytes.specs.GateBytes.{gateFits}
 use Rattle.circuit.specs.declared.reader.CircuitHead.{CircuitHead}
-use Rattle.circuit.specs.Circuits.{headLines, InRange}
+use Rattle.circuit.specs.Circuits.{headLines, mostLines, InRange}
 use Rattle.circuit.specs.Format.{tags, headLength}
 use Rattle.circuit.specs.Reading.{workOf, gatesOf, lengthsFit, rangesFit, headIn, readHead}
 
--- a file that passes causes 1 and 2: each body starts where the one before it ended, and the last ends with the file
-pub record Placed (f : List ℕ) : Type 0 where
-  pub first : entryStart f 0 ≡ tableLength 2
-  pub second : entryStart f 1 ≡ entryStart f 0 + entryLength f 0
-  pub last : entryStart f 1 + entryLength f 1 ≡ length f
-
--- and cause 3
+-- a file that passes causes 1 to 3
 pub record Sized (f : List ℕ) : Type 0 where
   pub laid : Laid 2 f
   pub head : entryLength f 0 ≡ headLength
   pub eights : entryLength f 1 ≡ 8 * gatesOf f
-  pub most : gatesOf f ≤ 8000
+  pub most : gatesOf f ≤ mostGates
 
 module _ (f : List ℕ) where
   -- the tests of causes 3 and 4, put together step by step
   pub lengths-tests : {e₀ e₁ : ℕ} {gates r : Bool} → e₀ ≡ entryLength f 0 → e₁ ≡ entryLength f 1
-      → gates ≡ (eqb (e₁ % 8) 0 && leb (e₁ / 8) 8000)
+      → gates ≡ (eqb (e₁ % 8) 0 && leb (e₁ / 8) mostGates)
       → r ≡ (eqb e₀ headLength && gates)
       → r ≡ lengthsFit f
   unfolding lengthsFit
   lengths-tests p₀ p₁ t₁ t₀ =
-      t₀ ∙ ap₂ _&&_ (ap (λ (e : ℕ). eqb e headLength) p₀) (t₁ ∙ ap (λ (e : ℕ). eqb (e % 8) 0 && leb (e / 8) 8000) p₁)
+      t₀ ∙ ap₂ _&&_ (ap (λ (e : ℕ). eqb e headLength) p₀) (t₁ ∙ ap (λ (e : ℕ). eqb (e % 8) 0 && leb (e / 8) mostGates) p₁)
 
   pub ranges-tests : {w : ℕ} {counts r : Bool} → counts ≡ arityFits (bodyOf f 0) → w ≡ workOf f
-      → r ≡ (counts && leb w 1024)
+      → r ≡ (counts && leb w mostWork)
       → r ≡ rangesFit f
   unfolding rangesFit
-  ranges-tests pc pw t = t ∙ ap₂ _&&_ pc (ap (λ (w : ℕ). leb w 1024) pw)
+  ranges-tests pc pw t = t ∙ ap₂ _&&_ pc (ap (λ (w : ℕ). leb w mostWork) pw)
 
   -- the numbers of the head, each as it was read
   pub head-read : {n m w g : ℕ} → n ≡ inputsOf f → m ≡ outputsOf f → w ≡ workOf f → g ≡ gatesOf f
@@ -57,50 +54,47 @@ module _ (f : List ℕ) where
   unfolding headIn
   head-read pn pm pw pg = rw (pn, pm, pw, pg) refl
 
-  pub placed : entriesFit tags f ≡ true → Placed f
-  unfolding entriesFit
-  placed e =
-      let a = entry-first 17 (18 ∷ []) 0 (tableLength 2) f e in
-      let b = entry-first 18 [] 1 (tableLength 2 + entryLength f 0) f (a .behind) in
-      let z = entries-end 2 (tableLength 2 + entryLength f 0 + entryLength f 1) f (b .behind) in
-      record {
-        first = a .starts;
-        second = omega (arith, a .starts, b .starts);
-        last = omega (arith, b .starts, z);
-      }
-
   pub sized : Laid 2 f → lengthsFit f ≡ true → Sized f
   unfolding lengthsFit
   sized l e =
       let head : Bool = eqb (entryLength f 0) headLength in
       let eights : Bool = eqb (entryLength f 1 % 8) 0 in
-      let most : Bool = leb (gatesOf f) 8000 in
+      let most : Bool = leb (gatesOf f) mostGates in
       let gates : (eights && most) ≡ true = both-second head (eights && most) e in
       let rest : entryLength f 1 % 8 ≡ 0 = eqb-true (entryLength f 1 % 8) 0 (both-first eights most gates) in
       record {
         laid = l;
         head = eqb-true (entryLength f 0) headLength (both-first head (eights && most) e);
         eights = omega (arith, rest);
-        most = leb-true (gatesOf f) 8000 (both-second eights most gates);
+        most = leb-true (gatesOf f) mostGates (both-second eights most gates);
       }
 
   -- the numbers of a file that passes cause 4
-  pub ranged : gatesOf f ≤ 8000 → rangesFit f ≡ true → InRange (headIn f)
+  pub ranged : gatesOf f ≤ mostGates → rangesFit f ≡ true → InRange (headIn f)
   unfolding rangesFit arityFits headIn
   ranged few e =
-      let n : Bool = leb (inputsOf f) 64 in
+      let n : Bool = leb (inputsOf f) mostInputs in
       let m₁ : Bool = leb 1 (outputsOf f) in
-      let m₂ : Bool = leb (outputsOf f) 64 in
-      let w : Bool = leb (workOf f) 1024 in
+      let m₂ : Bool = leb (outputsOf f) mostOutputs in
+      let w : Bool = leb (workOf f) mostWork in
       let counts : (n && (m₁ && m₂)) ≡ true = both-first (n && (m₁ && m₂)) w e in
       let m : (m₁ && m₂) ≡ true = both-second n (m₁ && m₂) counts in
       record {
-        inputs-most = leb-true (inputsOf f) 64 (both-first n (m₁ && m₂) counts);
+        inputs-most = leb-true (inputsOf f) mostInputs (both-first n (m₁ && m₂) counts);
         outputs-some = leb-true 1 (outputsOf f) (both-first m₁ m₂ m);
-        outputs-most = leb-true (outputsOf f) 64 (both-second m₁ m₂ m);
-        work-most = leb-true (workOf f) 1024 (both-second (n && (m₁ && m₂)) w e);
+        outputs-most = leb-true (outputsOf f) mostOutputs (both-second m₁ m₂ m);
+        work-most = leb-true (workOf f) mostWork (both-second (n && (m₁ && m₂)) w e);
         gates-most = few;
       }
+
+  -- the checks behind causes 1 and 2
+  abbrev pub headChecks : Answer CircuitHead
+  headChecks = check (lengthsFit f) cause.BodyLength (check (rangesFit f) cause.Range (result (headIn f)))
+
+  -- where these found nothing, reading the head goes on with them
+  pub head-checks : {r : ContentsRead} → contentsRead r ≡ readContents tags f → r ≡ Good → readHead f ≡ headChecks
+  unfolding readHead
+  head-checks e g = contents-next tags f e g headChecks
 
   module _ (l : Laid 2 f) where
     -- each body is as long as its entry says
@@ -145,8 +139,8 @@ module _ (f : List ℕ) where
     gates-counted =
         omega (arith, gates-long (a .sized .laid), a .sized .eights, ap (λ (k : CircuitHead). k .gates) (a .is))
 
-    -- there are at most 64 + 64 + 1,024 lines
-    pub lines-most : headLines h ≤ 1152
+    -- there are no more lines than a circuit may have
+    pub lines-most : headLines h ≤ mostLines
     lines-most = omega (arith, a .ranged .inputs-most, a .ranged .outputs-most, a .ranged .work-most)
 
     -- the lowest gate that the reader of the gates finds is the file's

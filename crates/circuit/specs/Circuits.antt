@@ -2,10 +2,11 @@
 use Prim.Native.Nat.{ℕ, _+_, _/_, _≤_}
 use mathlib.Core.List.{List}
 use lib.ListN.{length}
+use Rattle.wire.specs.Limits.{mostGates, mostInputs, mostOutputs, mostWork}
 use Rattle.wire.specs.Lists.{tabulate}
 use Rattle.gate.specs.declared.gates.Gate.{Gate}
 use Rattle.gate.specs.Gates.{WellFormed, All}
-use Rattle.gate.specs.GateBytes.{gateAt}
+use Rattle.gate_bytes.specs.GateBytes.{gateAt}
 use Rattle.circuit.specs.declared.reader.CircuitHead.{CircuitHead}
 
 -- how many input lines, targets (one for each output) and work lines there are, in this order, and the gates
@@ -23,17 +24,21 @@ headOf c = record { inputs = c .inputs; outputs = c .outputs; work = c .work; ga
 abbrev pub headLines : CircuitHead → ℕ
 headLines h = h .inputs + h .outputs + h .work
 
+-- the most lines that one may have
+abbrev pub mostLines : ℕ
+mostLines = mostInputs + mostOutputs + mostWork
+
 -- how many lines a circuit has
 abbrev pub lineCount : Circuit → ℕ
 lineCount c = headLines (headOf c)
 
 -- a head whose numbers are within 01's limits
 pub record InRange (h : CircuitHead) : Type 0 where
-  pub inputs-most : h .inputs ≤ 64
+  pub inputs-most : h .inputs ≤ mostInputs
   pub outputs-some : 1 ≤ h .outputs
-  pub outputs-most : h .outputs ≤ 64
-  pub work-most : h .work ≤ 1024
-  pub gates-most : h .gates ≤ 8000
+  pub outputs-most : h .outputs ≤ mostOutputs
+  pub work-most : h .work ≤ mostWork
+  pub gates-most : h .gates ≤ mostGates
 
 -- a circuit that a file can hold: its numbers are in range, and every gate is well formed on its lines
 pub record Legal (c : Circuit) : Type 0 where

@@ -1,14 +1,9 @@
 -- The bytes of a circuit file.
 use Prim.Native.Nat.{ℕ, _+_, _*_}
-use mathlib.Core.Bool.{cond}
 use mathlib.Core.List.{List, [], _∷_, _++_}
-use lib.ListN.{length, drop, replicate}
-use lib.Dec.{eqb}
-use Rattle.wire.specs.Answers.{Answer, result, refused, numberOf}
 use Rattle.wire.specs.Bytes.{bytes16}
-use Rattle.wire.specs.Contents.{tableLength, contentsBytes}
-use Rattle.wire.specs.declared.refusals.Refusal.the-variants as cause
-use Rattle.gate.specs.GateBytes.{gatesBytes}
+use Rattle.contents.specs.Contents.{tableLength, contentsBytes}
+use Rattle.gate_bytes.specs.GateBytes.{gatesBytes}
 use Rattle.circuit.specs.declared.reader.CircuitHead.{CircuitHead}
 use Rattle.circuit.specs.Circuits.{Circuit, headOf}
 
@@ -39,8 +34,3 @@ openingBytes h = contentsBytes tags (headLength ∷ 8 * h .gates ∷ []) ++ head
 -- the file of a circuit
 unfoldable pub circuitFile : Circuit → List ℕ
 circuitFile c = openingBytes (headOf c) ++ gatesBytes (c .gates)
-
--- a lent circuit area at exit: the file and, behind it, what was there; all zero on cause 11; on every other refusal as it was
-abbrev pub areaAfter : Answer Circuit → List ℕ → List ℕ
-areaAfter (result c) area = circuitFile c ++ drop (length (circuitFile c)) area
-areaAfter (refused n p) area = cond (eqb n (numberOf (cause.Room p))) (replicate (length area) 0) area

@@ -1,5 +1,4 @@
 pub mod Circuits
 pub mod Format
 pub mod Reading
-pub mod Steps
 pub mod Theorems

@@ -3,13 +3,14 @@ use Prim.Native.Nat.{ℕ, _/_, _%_}
 use mathlib.Core.Bool.{Bool, _&&_}
 use mathlib.Core.List.{List}
 use lib.Dec.{eqb, leb}
-use Rattle.wire.specs.Answers.{Answer, result, refuse, check, checkEach, andThen}
+use Rattle.wire.specs.Limits.{mostGates, mostWork}
+use Rattle.refusal.specs.Answers.{Answer, result, refuse, check, checkEach, andThen}
 use Rattle.wire.specs.Bits.{bitsFit}
 use Rattle.wire.specs.Bytes.{at16}
-use Rattle.wire.specs.Contents.{tableFits, entriesFit, entryLength, bodyOf}
-use Rattle.wire.specs.Arity.{inputsOf, outputsOf, arityFits}
-use Rattle.wire.specs.declared.refusals.Refusal.the-variants as cause
-use Rattle.gate.specs.GateBytes.{gateFits}
+use Rattle.contents.specs.Contents.{tableFits, entriesFit, entryLength, bodyOf}
+use Rattle.contents.specs.Arity.{inputsOf, outputsOf, arityFits}
+use Rattle.refusal.specs.declared.causes.Refusal.the-variants as cause
+use Rattle.gate_bytes.specs.GateBytes.{gateFits}
 use Rattle.circuit.specs.declared.reader.CircuitHead.{CircuitHead}
 use Rattle.circuit.specs.declared.reader.CircuitRead.{CircuitRead}
 use Rattle.circuit.specs.declared.reader.CircuitRead.the-variants.{Good, Refused}
@@ -26,11 +27,11 @@ gatesOf f = entryLength f 1 / 8
 
 -- the test of cause 3: the head's length; eight bytes a gate, at most 8,000 gates
 unfoldable pub lengthsFit : List ℕ → Bool
-lengthsFit f = eqb (entryLength f 0) headLength && (eqb (entryLength f 1 % 8) 0 && leb (gatesOf f) 8000)
+lengthsFit f = eqb (entryLength f 0) headLength && (eqb (entryLength f 1 % 8) 0 && leb (gatesOf f) mostGates)
 
 -- the test of cause 4: at most 64 inputs, 1 to 64 outputs, at most 1,024 work lines
 unfoldable pub rangesFit : List ℕ → Bool
-rangesFit f = arityFits (bodyOf f 0) && leb (workOf f) 1024
+rangesFit f = arityFits (bodyOf f 0) && leb (workOf f) mostWork
 
 -- the numbers that a file in order holds
 unfoldable pub headIn : List ℕ → CircuitHead

@@ -2,7 +2,7 @@
 use Prim.Native.Nat.{ℕ}
 use mathlib.Core.Path.{_≡_}
 use mathlib.Core.List.{List}
-use Rattle.wire.specs.Answers.{result}
+use Rattle.refusal.specs.Answers.{result}
 use Rattle.wire.specs.Bytes.{Bytes}
 use Rattle.circuit.specs.Circuits.{Circuit, Legal}
 use Rattle.circuit.specs.Format.{circuitFile}

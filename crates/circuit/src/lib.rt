@@ -1,4 +1,3 @@
-// Circuit files: the reader, and the writer of heads and gates.
+// Circuit files: where their parts lie, and the reader.
 pub mod layout;
 pub mod reader;
-pub mod writer;

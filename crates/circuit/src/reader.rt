@@ -1,26 +1,28 @@
 // The reader of circuit files: causes 1 to 4 for the head, 12 for the gates, and 13 for bytes that
 // come with a file, one for each line.
 use crate::layout::HEAD_LENGTH;
-use gate::gates::GateRead;
-use gate::gates::read_gate;
-use wire::arity::arity_fits;
+use contents::arity::arity_fits;
+use contents::reader::ContentsRead;
+use contents::reader::body;
+use contents::reader::entry_length;
+use contents::reader::read_contents;
+use gate_bytes::reader::GateRead;
+use gate_bytes::reader::read_gate;
+use refusal::causes::Refusal;
+use refusal::checks::both;
 use wire::bits::bits_fit;
-use wire::checks::both;
-use wire::contents::body;
-use wire::contents::entries_fit;
-use wire::contents::entry_length;
-use wire::contents::table_fits;
+use wire::limits::MOST_GATES;
+use wire::limits::MOST_WORK;
 use wire::numbers::get16;
-use wire::refusals::Refusal;
 ghost use mathlib.Core.Path.{_≡_};
 ghost use Prim.Native.Nat.{_/_, _≤_};
 ghost use lib.ListN.{length};
-ghost use Rattle.wire.specs.Answers.{mapAnswer};
-ghost use Rattle.wire.specs.Checks.{lowest};
-ghost use Rattle.wire.specs.Contents.{entryLength, bodyOf};
-ghost use Rattle.wire.specs.Steps.{Laid};
-ghost use Rattle.gate.specs.GateBytes.{gateFits};
-ghost use Rattle.circuit.specs.Circuits.{headOf, headLines};
+ghost use Rattle.refusal.specs.Answers.{mapAnswer};
+ghost use Rattle.refusal.specs.Checks.{lowest};
+ghost use Rattle.contents.specs.Contents.{entryLength, bodyOf};
+ghost use Rattle.contents.specs.Steps.{Laid};
+ghost use Rattle.gate_bytes.specs.GateBytes.{gateFits};
+ghost use Rattle.circuit.specs.Circuits.{headOf, headLines, mostLines};
 ghost use Rattle.circuit.specs.Format.{headLength};
 ghost use Rattle.circuit.specs.Reading.{lengthsFit, rangesFit, headIn, readHead, readCircuit, readWithLines, circuitRead};
 
@@ -40,7 +42,7 @@ pub enum CircuitRead {
 
 // How many lines a circuit has, where its numbers are in range.
 fn line_count(head: CircuitHead) -> usize
-    requires { ⌜ headLines head ≤ 1152 ⌝ }
+    requires { ⌜ headLines head ≤ mostLines ⌝ }
     ensures { λ r. ⌜ r ≡ headLines head ⌝ }
 {
     head.inputs + head.outputs + head.work
@@ -52,8 +54,8 @@ fn lengths_fit(file: &[u8]) -> bool
     ensures { λ r. ⌜ r ≡ lengthsFit (now (file .entry)) ⌝ }
 {
     let head = entry_length(file, 0) as usize == HEAD_LENGTH;
-    let gates = entry_length(file, 1);
-    both(head, both(gates % 8 == 0, gates / 8 <= 8000))
+    let gates = entry_length(file, 1) as usize;
+    both(head, both(gates % 8 == 0, gates / 8 <= MOST_GATES))
 }
 
 // Whether the numbers of inputs, outputs and work lines are in range.
@@ -62,7 +64,7 @@ fn ranges_fit(file: &[u8]) -> bool
     ensures { λ r. ⌜ r ≡ rangesFit (now (file .entry)) ⌝ }
 {
     let head = body(file, 0);
-    both(arity_fits(head), get16(head, 4) <= 1024)
+    both(arity_fits(head), get16(head, 4) as u64 <= MOST_WORK)
 }
 
 // The numbers that the head and the length of the gate body give.
@@ -83,11 +85,9 @@ fn head_in(file: &[u8]) -> CircuitHead
 pub fn read_head(file: &[u8]) -> CircuitRead
     ensures { λ r. ⌜ circuitRead r ≡ readHead (now (file .entry)) ⌝ }
 {
-    if !table_fits(file, 2) {
-        return CircuitRead::Refused(Refusal::Table);
-    }
-    if !entries_fit(file, &[17, 18]) {
-        return CircuitRead::Refused(Refusal::Contents);
+    let contents = read_contents(file, &[17, 18]);
+    if let ContentsRead::Refused(why) = contents {
+        return CircuitRead::Refused(why);
     }
     if !lengths_fit(file) {
         return CircuitRead::Refused(Refusal::BodyLength);

@@ -4,31 +4,31 @@ use native.Mathlib.Omega.{arith}
 use mathlib.Core.Path.{_≡_, sym, ap, ap₂, _∙_}
 use mathlib.Core.List.{List}
 use lib.ListN.{length, getD}
-use Rattle.wire.specs.Contents.{bodyOf}
+use Rattle.wire.specs.Limits.{mostGates, mostOutputs, mostSize, mostWork}
+use Rattle.contents.specs.Contents.{bodyOf}
+use Rattle.contents.specs.Arity.{inputsOf}
 use Rattle.wire.specs.Lists.{tabulate}
 use Rattle.wire.proofs.ListLaws.{tabulate-same}
 use Rattle.circuit.specs.declared.reader.CircuitHead.{CircuitHead}
 use Rattle.circuit.specs.Circuits.{InRange}
 use Rattle.circuit.specs.Format.{fileLength}
-use Rattle.program.specs.declared.node.Node.{Node}
-use Rattle.program.specs.Exprs.{Expr, ZERO, size}
-use Rattle.program.specs.Nodes.{nodesIn}
+use Rattle.node.specs.declared.nodes.Node.{Node}
+use Rattle.node.specs.Exprs.{Expr, ZERO, size}
+use Rattle.node.specs.Nodes.{nodesIn, TableOk}
 use Rattle.program.specs.Programs.{outputTree}
-use Rattle.wire.specs.Arity.{inputsOf}
 use Rattle.program.specs.Reading.{outputAt, programOf}
-use Rattle.program.specs.Trees.{trees}
-use Rattle.program.specs.Steps.{TableOk}
+use Rattle.node.specs.Trees.{trees}
 use Rattle.program.proofs.AcceptedLaws.{Accepted, same-nodes, outputs-length, output-is, table-ok, inputs-is}
 use Rattle.program.proofs.ReadingLaws.{nodes-counted, outputs-counted}
 use Rattle.construction.specs.Construction.{circuitGates, linesNeeded}
 use Rattle.construction.specs.Counting.{gatesShown}
 use Rattle.construction.specs.Steps.{sharesCount}
 use Rattle.construction.proofs.CountLaws.{circuit-length}
-use Rattle.construct.specs.declared.counter.Needs.{Needs}
-use Rattle.construct.specs.Counters.{AllCountable, Needed}
-use Rattle.construct.specs.Tables.{treeIn, treesIn}
-use Rattle.construct.specs.Writing.{CircuitRoom}
-use Rattle.compile.specs.Compiling.{outputTrees, programCircuit}
+use Rattle.counting.specs.declared.Needs.{Needs}
+use Rattle.counting.specs.Counters.{AllCountable, Needed}
+use Rattle.program.specs.Tables.{treeIn, treesIn}
+use Rattle.shares.specs.Sharing.{CircuitRoom}
+use Rattle.compilation.specs.Compiling.{outputTrees, programCircuit}
 
 module _ (f : List ℕ) (a : Accepted f) where
   pub outputs-count : length (bodyOf f 2) / 2 ≡ length (programOf f .outputs)
@@ -58,7 +58,7 @@ module _ (f : List ℕ) (a : Accepted f) where
       ∙ ap (tabulate (outputTree (programOf f))) outputs-count
 
   -- where no output is too large the shares can be counted
-  pub countable : ((k : ℕ) → k < length (programOf f .outputs) → size (outputTree (programOf f) k) ≤ 16384) → AllCountable (bodyOf f 1) (bodyOf f 2)
+  pub countable : ((k : ℕ) → k < length (programOf f .outputs) → size (outputTree (programOf f) k) ≤ mostSize) → AllCountable (bodyOf f 1) (bodyOf f 2)
   countable small =
       record {
         each = λ k h.
@@ -83,20 +83,17 @@ module _ (f : List ℕ) (a : Accepted f) where
         ∙ ap gatesShown (sym (circuit-length (programOf f .inputs) (outputTrees (programOf f))))
 
   -- a head whose numbers are in range fits, with the program's gates, into an area that is long enough
-  pub fitting : (h : CircuitHead) (area : List ℕ) → h .inputs ≡ inputsOf f → 1 ≤ h .outputs → h .outputs ≤ 64 → h .work ≤ 1024 → h .gates ≤ 8000
-      → programCircuit (programOf f) .work ≤ 1024 → fileLength (length (programCircuit (programOf f) .gates)) ≤ length area → InRange h × CircuitRoom (bodyOf f 1) (bodyOf f 2) (h .inputs) area
+  pub fitting : (h : CircuitHead) (area : List ℕ) → h .inputs ≡ inputsOf f → 1 ≤ h .outputs → h .outputs ≤ mostOutputs → h .work ≤ mostWork → h .gates ≤ mostGates
+      → programCircuit (programOf f) .work ≤ mostWork → length (programCircuit (programOf f) .gates) ≤ mostGates → fileLength (length (programCircuit (programOf f) .gates)) ≤ length area → InRange h × CircuitRoom (bodyOf f 1) (bodyOf f 2) (h .inputs) area
   unfolding programCircuit
-  fitting h area n some most w g lines room =
+  fitting h area n some most w g lines few-gates room =
       let length-is : length (circuitGates (programOf f .inputs) (outputTrees (programOf f))) ≡ sharesCount (outputTrees (programOf f)) = circuit-length (programOf f .inputs) (outputTrees (programOf f)) in (
         record { inputs-most = omega (arith, a .inputs-most); outputs-some = some; outputs-most = most; work-most = w; gates-most = g },
         record {
           ordered = rw n nodes-ordered;
           named = names-node;
           lines = rw n (omega (arith, a .inputs-most, a .outputs-most, outputs-counted f (a .sized), ap₂ linesNeeded (sym (inputs-is f a)) trees-same));
+          few = omega (arith, ap sharesCount trees-same, length-is, few-gates);
           room = omega (arith, ap sharesCount trees-same, length-is);
         },
       )
-
--- an area of the same length can be written as well
-pub room-same : {nodes outputs area after : List ℕ} {n : ℕ} → CircuitRoom nodes outputs n area → length after ≡ length area → CircuitRoom nodes outputs n after
-room-same w e = record { ordered = w .ordered; named = w .named; lines = w .lines; room = omega (arith, w .room) }

@@ -3,29 +3,29 @@ use Prim.Native.Nat.{ℕ, _/_, _<_, _≤_}
 use native.Mathlib.Omega.{arith}
 use mathlib.Core.Path.{_≡_, refl, sym, ap, ap₂, _∙_}
 use mathlib.Core.Logic.{_≢_}
-use mathlib.Core.Bool.{false}
 use mathlib.Core.List.{List, _++_}
 use lib.ListN.{length, drop}
-use lib.Dec.{eqb}
-use borrow.Author.Tests.{le-leb, lt-leb, ne-eqb}
-use Rattle.wire.specs.Answers.{Answer, result, refused, refuse, andThen, mapAnswer}
-use Rattle.wire.specs.Contents.{bodyOf}
-use Rattle.wire.specs.declared.refusals.Refusal.the-variants as cause
+use borrow.Author.Tests.{le-leb, lt-leb}
+use Rattle.refusal.specs.Answers.{Answer, result, refused, refuse, andThen, mapAnswer}
+use Rattle.contents.specs.Contents.{bodyOf}
+use Rattle.contents.specs.Arity.{inputsOf}
+use Rattle.refusal.specs.declared.causes.Refusal.the-variants as cause
 use Rattle.circuit.specs.declared.reader.CircuitHead.{CircuitHead}
 use Rattle.circuit.specs.Circuits.{Circuit, headOf}
-use Rattle.circuit.specs.Format.{areaAfter}
-use Rattle.program.specs.declared.node.Node.{Node}
+use Rattle.wire.specs.Areas.{areaAfter}
+use Rattle.wire.proofs.AreaLaws.{area-kept}
+use Rattle.circuit.specs.Format.{circuitFile}
+use Rattle.node.specs.declared.nodes.Node.{Node}
 use Rattle.program.specs.declared.reader.Head.{Head}
-use Rattle.program.specs.Nodes.{nodesIn}
+use Rattle.node.specs.Nodes.{nodesIn}
 use Rattle.program.specs.Programs.{Program}
 use Rattle.program.specs.Reading.{programOf, readProgram}
 use Rattle.program.proofs.AcceptedLaws.{Read, reader-room, nodes-length, same-nodes}
 use Rattle.program.proofs.ReadingLaws.{nodes-counted}
 use Rattle.sizing.specs.Sizing.{nodeSizes}
-use Rattle.program.specs.Steps.{Fillable}
-use Rattle.wire.specs.Arity.{inputsOf}
+use Rattle.node.specs.Steps.{Fillable}
 use Rattle.compile.proofs.BodyLaws.{nodes-ordered}
-use Rattle.compile.specs.Compiling.{compileProgram, readWithSizes, compileFile, sizesAfter, compileOf}
+use Rattle.compilation.specs.Compiling.{compileProgram, readWithSizes, compileFile, sizesAfter, compileOf}
 use Rattle.compile.specs.Steps.{Listed}
 
 module _ (f : List ℕ) (grant : ℕ) (sizes area : List ℕ) where
@@ -39,16 +39,15 @@ module _ (f : List ℕ) (grant : ℕ) (sizes area : List ℕ) where
   abbrev led : Answer Program → Answer Circuit
   led x = andThen x (λ p. compileProgram p grant (length area))
 
-  outcome : (x : Answer Program) → readWithSizes f (length sizes) ≡ x → Outcome (mapAnswer headOf (led x)) (sizesAfter x sizes) (areaAfter (led x) area)
+  outcome : (x : Answer Program) → readWithSizes f (length sizes) ≡ x → Outcome (mapAnswer headOf (led x)) (sizesAfter x sizes) (areaAfter (mapAnswer circuitFile (led x)) area)
   unfolding compileOf compileFile
   outcome x e = record { answer = rw e refl; sizes-are = rw e refl; area-is = rw e refl }
 
   -- a refusal before the sizes leaves both lists as they were
   unread : (n p : ℕ) → readWithSizes f (length sizes) ≡ refused n p → n ≢ 11 → Outcome (refused n p) sizes area
   unread n p e h =
-      let other : eqb n 11 ≡ false = ne-eqb n 11 h in
       let o = outcome (refused n p) e in
-      record { answer = o .answer; sizes-are = o .sizes-are; area-is = sym (rw other refl) ∙ o .area-is }
+      record { answer = o .answer; sizes-are = o .sizes-are; area-is = sym (area-kept n p area h) ∙ o .area-is }
 
   -- the reader's refusal is passed on
   pub reader-refuses : (n p : ℕ) → readProgram f ≡ refused n p → Outcome (refused n p) sizes area
@@ -69,7 +68,7 @@ module _ (f : List ℕ) (grant : ℕ) (sizes area : List ℕ) where
         → Outcome
         (mapAnswer headOf (compileProgram (programOf f) grant (length area)))
         (nodeSizes (programOf f .nodes) ++ drop (length (programOf f .nodes)) sizes)
-        (areaAfter (compileProgram (programOf f) grant (length area)) area)
+        (areaAfter (mapAnswer circuitFile (compileProgram (programOf f) grant (length area))) area)
     unfolding readWithSizes
     sized s =
         outcome (result (programOf f)) (rw (r .accepts .is, le-leb (length (programOf f .nodes)) (length sizes) (omega (arith, head-nodes))) refl)

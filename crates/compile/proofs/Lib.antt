@@ -1,10 +1,3 @@
-pub mod AcceptedCase
-pub mod AcceptedLaws
 pub mod BodyLaws
 pub mod CompileLaws
-pub mod DemandLaws
-pub mod DemandSaysLaws
-pub mod OutputLaws
-pub mod ProgramLaws
-pub mod RunLaws
 pub mod SizedLaws

@@ -1,4 +1,2 @@
-pub mod Compiling
-pub mod Demand
-pub mod EndToEnd
+pub mod Answers
 pub mod Steps

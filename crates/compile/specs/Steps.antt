@@ -2,7 +2,7 @@
 use Prim.Native.Nat.{ℕ}
 use mathlib.Core.Path.{_≡_}
 use mathlib.Core.List.{List, _++_}
-use Rattle.wire.specs.Answers.{result}
+use Rattle.refusal.specs.Answers.{result}
 use Rattle.program.specs.declared.reader.Head.{Head}
 use Rattle.program.specs.Programs.{headOf}
 use Rattle.program.specs.Reading.{programOf, readProgram}

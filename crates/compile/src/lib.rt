@@ -1,36 +1,29 @@
 // The service compile: a program file's circuit, written into a lent area.
-pub mod end_to_end;
-
-use circuit::layout::FIRST_GATE;
+use circuit::layout::has_room;
 use circuit::reader::CircuitHead;
-use circuit::writer::clear;
-use circuit::writer::write_head;
-use construct::counter::count_shares;
-use construct::sharer::write_shares;
+use counting::count_shares;
 use program::reader::Head;
 use program::reader::ProgramRead;
 use program::reader::node_body;
 use program::reader::output_body;
 use program::reader::read_program;
+use refusal::causes::Refusal;
+use shares::write_circuit;
 use sizing::fill_sizes;
 use sizing::first_too_large;
-use wire::refusals::Refusal;
+use wire::areas::clear;
+use wire::limits::MOST_WORK;
 ghost use mathlib.Core.Path.{_≡_};
-ghost use mathlib.Core.Bool.{_&&_};
 ghost use lib.ListN.{length};
-ghost use lib.Dec.{leb};
-ghost use lib.Seq.{sets};
-ghost use Rattle.wire.specs.Answers.{mapAnswer};
-ghost use Rattle.circuit.specs.Circuits.{headOf, InRange};
-ghost use Rattle.circuit.specs.Format.{fileLength, openingBytes, areaAfter};
-ghost use Rattle.circuit.specs.Steps.{putGates};
+ghost use Rattle.refusal.specs.Answers.{mapAnswer};
+ghost use Rattle.circuit.specs.Circuits.{headOf};
+ghost use Rattle.circuit.specs.Format.{circuitFile};
+ghost use Rattle.wire.specs.Areas.{areaAfter};
 ghost use Rattle.program.specs.Reading.{programOf};
-ghost use Rattle.construction.specs.Construction.{circuitGates};
-ghost use Rattle.construct.specs.Tables.{treesIn};
-ghost use Rattle.construct.specs.Writing.{CircuitRoom};
-ghost use Rattle.compile.specs.Compiling.{compileProgram, compileOf, compiled};
+ghost use Rattle.compilation.specs.Compiling.{compileProgram, compileOf};
+ghost use Rattle.compile.specs.Answers.{compiled};
 ghost use Rattle.compile.specs.Steps.{Listed};
-ghost use Rattle.compile.specs.Demand.{Demand3};
+ghost use Rattle.compilation.specs.Demand.{Demand3};
 
 // What compiling answers: the numbers of the circuit written.
 pub enum Compiled {
@@ -48,31 +41,12 @@ fn refused(answer: ProgramRead) -> Compiled
     }
 }
 
-// Whether a file may have so many gates, and an area of so many bytes has room for it.
-fn has_room(gates: usize, room: usize) -> bool
-    ensures { λ r. ⌜ r ≡ leb gates 8000 && leb (fileLength gates) room ⌝ }
-{
-    if 8000 < gates {
-        return false;
-    }
-    FIRST_GATE + 8 * gates <= room
-}
-
-// Stores the head and the shares of all outputs.
-fn write_circuit(nodes: &[u8], outputs: &[u8], head: CircuitHead, area: &mut [u8])
-    requires { ⌜ InRange head × CircuitRoom (now nodes) (now outputs) (head .inputs) (now area) ⌝ }
-    ensures { λ _. ⌜ now (area .exit) ≡ putGates (sets (now (area .entry)) 0 (openingBytes head)) 0 (circuitGates (head .inputs) (treesIn (now (nodes .entry)) (now (outputs .entry)))) ⌝ }
-{
-    write_head(area, head);
-    write_shares(nodes, outputs, head.inputs, area);
-}
-
 // Compiles a program whose sizes are listed: causes 8 to 11, and everything is counted before
 // anything is written.
 fn compile_sized(file: &[u8], head: Head, grant: u64, sizes: &[u16], area: &mut [u8]) -> Compiled
     requires { ⌜ Listed (now file) head (now sizes) ⌝ }
     ensures { λ r. ⌜ compiled r ≡ mapAnswer headOf (compileProgram (programOf (now (file .entry))) grant (length (now (area .entry)))) ⌝ }
-    ensures { λ _. ⌜ now (area .exit) ≡ areaAfter (compileProgram (programOf (now (file .entry))) grant (length (now (area .entry)))) (now (area .entry)) ⌝ }
+    ensures { λ _. ⌜ now (area .exit) ≡ areaAfter (mapAnswer circuitFile (compileProgram (programOf (now (file .entry))) grant (length (now (area .entry))))) (now (area .entry)) ⌝ }
 {
     let nodes = node_body(file);
     let outputs = output_body(file);
@@ -80,7 +54,7 @@ fn compile_sized(file: &[u8], head: Head, grant: u64, sizes: &[u16], area: &mut 
     if output != head.outputs {
         return Compiled::Refused(Refusal::Size(output as u64));
     }
-    if 1024 < grant {
+    if MOST_WORK < grant {
         return Compiled::Refused(Refusal::Grant);
     }
     let needs = count_shares(nodes, outputs);

@@ -1,182 +1,238 @@
 -- Laws of writing a tree's gates: what was written for the operands goes together, and there is room for each. Assumes nothing.
-use Prim.Native.Nat.{ℕ, _+_, _≤_, _<_}
+use Prim.Native.Nat.{ℕ, _+_, _/_, _%_, _≤_, _<_}
 use native.Mathlib.Omega.{arith}
 use native.Mathlib.Nat.{add-zero}
 use mathlib.Core.Path.{_≡_, refl, sym, ap, _∙_}
 use mathlib.Core.List.{List, [], _∷_}
 use lib.ListN.{length}
+use Rattle.wire.specs.Limits.{mostGates}
+use Rattle.gate.specs.declared.gates.Gate.{Gate}
 use Rattle.gate.specs.declared.gates.Gate.the-variants.{Not, Cnot, Toffoli}
 use Rattle.circuit.specs.Format.{fileLength}
-use Rattle.program.specs.Exprs.{Expr, ZERO, ONE, INPUT, NOT, XOR, AND}
-use Rattle.construction.specs.Pools.{Pool, allFree, lowestFree}
-use Rattle.construction.specs.Steps.{Reached, fresh, gateCount}
+use Rattle.areas.specs.AreaGates.{putGates, Stored}
+use Rattle.areas.proofs.AreaLaws.{stored-none, stored-then}
+use Rattle.node.specs.Exprs.{Expr, ZERO, ONE, INPUT, NOT, XOR, AND}
+use Rattle.program.specs.Tables.{treeIn}
+use Rattle.program.proofs.OperandLaws.{Operand, Unary, Binary}
+use Rattle.construction.specs.Pools.{allFree}
+use Rattle.construction.specs.Steps.{fresh, gateCount}
 use Rattle.construction.proofs.Numbers.{held, most, second, buildFrom}
 use Rattle.construction.proofs.PoolLaws.{tree-lines, reached-gates, reached-free, start-free}
 use Rattle.construction.proofs.CountLaws.{build-length}
 use Rattle.construction.proofs.LineLaws.{most-not, most-xor-first, most-xor-second, most-and-first, most-and-second}
-use Rattle.construct.specs.declared.builder.Progress.{Progress}
-use Rattle.construct.specs.Tables.{treeIn, Valid}
-use Rattle.construct.specs.Writing.{Stored, Appended, BuiltInto, BuildRoom}
-use Rattle.construct.proofs.AreaLaws.{stored-none, stored-then}
-use Rattle.construct.proofs.OperandLaws.{Unary, Binary}
+use Rattle.construct.specs.Writing.{lineNumbers, packed, Piece, single, tree, Wrote, Room}
 
--- a tree is built into line t, by numbers
-pub record BuiltFrom (e : Expr) (t : ℕ) (p r : Progress) (old new : List ℕ) : Type 0 where
-  pub stored : Stored (buildFrom e t (p .free)) (p .gates) (r .gates) old new
-  pub free-to : r .free ≡ p .free + held e
+-- a piece's gates where f is the lowest free line, and how many lines it holds then, by numbers
+abbrev pub gatesFrom : Piece → ℕ → List Gate
+gatesFrom (single g) f = g ∷ []
+gatesFrom (tree e t) f = buildFrom e t f
 
--- that is, as the construction builds it
-module _ {e : Expr} {t : ℕ} {p r : Progress} {old new : List ℕ} where
-  pub built-from : BuiltInto e t p r old new → BuiltFrom e t p r old new
-  built-from b =
-      let q : Pool = allFree (p .free) in
-      let h : Reached q = fresh (p .free) in
-      let low : lowestFree q ≡ p .free = start-free (p .free) in
-      record { stored = rw (reached-gates e t h low) at (b .stores q h low); free-to = sym (b .leaves q h low) ∙ reached-free e t h low }
+abbrev pub holds : Piece → ℕ
+holds (single g) = 0
+holds (tree e t) = held e
 
-  pub built-into : BuiltFrom e t p r old new → BuiltInto e t p r old new
-  built-into b = record {
+-- a piece is written, by numbers
+pub record Written (piece : Piece) (k f r : ℕ) (old new : List ℕ) : Type 0 where
+  pub stored : Stored (gatesFrom piece f) k (r / lineNumbers) old new
+  pub free-to : r % lineNumbers ≡ f + holds piece
+
+-- that is, as the construction does it
+module _ {k f r : ℕ} {old new : List ℕ} where
+  from : (piece : Piece) → Wrote piece k f r old new → Written piece k f r old new
+  from (single g) w =
+      record { stored = w .stores (allFree f) (fresh f) (start-free f); free-to = sym (w .leaves (allFree f) (fresh f) (start-free f)) ∙ start-free f ∙ sym (add-zero f) }
+  from (tree e t) w =
+      record {
+        stored = rw (reached-gates e t (fresh f) (start-free f)) at (w .stores (allFree f) (fresh f) (start-free f));
+        free-to = sym (w .leaves (allFree f) (fresh f) (start-free f)) ∙ reached-free e t (fresh f) (start-free f);
+      }
+
+  to : (piece : Piece) → Written piece k f r old new → Wrote piece k f r old new
+  to (single g) b = record { stores = λ q h low. b .stored; leaves = λ q h low. low ∙ sym (add-zero f) ∙ sym (b .free-to) }
+  to (tree e t) b = record {
     stores = λ q h low. rw (reached-gates e t h low) (b .stored);
     leaves = λ q h low. reached-free e t h low ∙ sym (b .free-to);
   }
 
+  pub by-numbers : {piece : Piece} → Wrote piece k f r old new → Written piece k f r old new
+  by-numbers {piece} w = from piece w
+
+  pub wrote : {piece : Piece} → Written piece k f r old new → Wrote piece k f r old new
+  wrote {piece} b = to piece b
+
+-- how far writing has come is read off one number
+module _ (j : ℕ) {f r : ℕ} (e : r ≡ packed j f) (h : f < lineNumbers) where
+  packed-gates : r / lineNumbers ≡ j
+  packed-gates = omega arith
+
+  packed-free : r % lineNumbers ≡ f
+  packed-free = omega arith
+
+-- one gate is stored
+pub single-wrote : {g : Gate} {k f r : ℕ} {l l₁ : List ℕ} → r ≡ packed (k + 1) f → f < lineNumbers → l₁ ≡ putGates l k (g ∷ []) → Wrote (single g) k f r l l₁
+single-wrote {g} {k} {f} e h s = wrote (record { stored = record { count-to = packed-gates (k + 1) e h; area-to = s }; free-to = packed-free (k + 1) e h ∙ sym (add-zero f) })
+
 -- a tree's gates, from those of its operands
-pub built-zero : (t : ℕ) (p : Progress) (l : List ℕ) → BuiltFrom ZERO t p p l l
+pub built-zero : (t k f : ℕ) {r : ℕ} (l : List ℕ) → f < lineNumbers → r ≡ packed k f → Wrote (tree ZERO t) k f r l l
 unfolding buildFrom held
-built-zero t p l = record { stored = stored-none (p .gates) l; free-to = sym (add-zero (p .free)) }
+built-zero t k f l h e = wrote (record { stored = rw (packed-gates k e h) (stored-none k l); free-to = packed-free k e h ∙ sym (add-zero f) })
 
-pub built-one : {t : ℕ} {p q : Progress} {l l₁ : List ℕ} → Appended (Not t) p q l l₁ → BuiltFrom ONE t p q l l₁
+pub built-one : {t k f r : ℕ} {l l₁ : List ℕ} → Wrote (single (Not t)) k f r l l₁ → Wrote (tree ONE t) k f r l l₁
 unfolding buildFrom held
-built-one {p = p} w = record { stored = w .stored; free-to = w .free-to ∙ sym (add-zero (p .free)) }
+built-one w = let b = by-numbers w in wrote (record { stored = b .stored; free-to = b .free-to })
 
-pub built-input : {j t : ℕ} {p q : Progress} {l l₁ : List ℕ} → Appended (Cnot j t) p q l l₁ → BuiltFrom (INPUT j) t p q l l₁
+pub built-input : {j t k f r : ℕ} {l l₁ : List ℕ} → Wrote (single (Cnot j t)) k f r l l₁ → Wrote (tree (INPUT j) t) k f r l l₁
 unfolding buildFrom held
-built-input {p = p} w = record { stored = w .stored; free-to = w .free-to ∙ sym (add-zero (p .free)) }
+built-input w = let b = by-numbers w in wrote (record { stored = b .stored; free-to = b .free-to })
 
-pub built-not : {a : Expr} {t : ℕ} {p q r : Progress} {l l₁ l₂ : List ℕ}
-    → Appended (Not t) p q l l₁ → BuiltFrom a t q r l₁ l₂ → BuiltFrom (NOT a) t p r l l₂
+pub built-not : {a : Expr} {t k f p r : ℕ} {l l₁ l₂ : List ℕ} → Wrote (single (Not t)) k f p l l₁ → Wrote (tree a t) (k + 1) f r l₁ l₂ → Wrote (tree (NOT a) t) k f r l l₂
 unfolding buildFrom held
-built-not {a} {t} w b =
-    record {
-      stored = stored-then (w .stored) (rw (w .free-to) at (b .stored));
-      free-to = b .free-to ∙ ap (λ (n : ℕ). n + held a) (w .free-to);
-    }
+built-not {k = k} {p = p} w v =
+    let first = by-numbers w in
+    let rest = by-numbers v in
+    let done : p / lineNumbers ≡ k + 1 = first .stored .count-to in
+    wrote (record { stored = stored-then (rw done at (first .stored)) (rest .stored); free-to = rest .free-to })
 
-pub built-xor : {a b : Expr} {t : ℕ} {p q r : Progress} {l l₁ l₂ : List ℕ}
-    → BuiltFrom a t p q l l₁ → BuiltFrom b t q r l₁ l₂ → BuiltFrom (XOR a b) t p r l l₂
+pub built-xor : {a b : Expr} {t k f p r : ℕ} {l l₁ l₂ : List ℕ} → Wrote (tree a t) k f p l l₁ → Wrote (tree b t) (p / lineNumbers) (p % lineNumbers) r l₁ l₂ → Wrote (tree (XOR a b) t) k f r l l₂
 unfolding buildFrom held
-built-xor v w = record { stored = stored-then (v .stored) (rw (v .free-to) at (w .stored)); free-to = omega (arith, v .free-to, w .free-to) }
+built-xor v w =
+    let first = by-numbers v in
+    let rest = by-numbers w in
+    wrote (record { stored = stored-then (first .stored) (rw (first .free-to) at (rest .stored)); free-to = omega (arith, rest .free-to, first .free-to) })
 
-pub built-and : {a b : Expr} {t f′ g′ : ℕ} {p q r z : Progress} {l l₁ l₂ l₃ : List ℕ}
-    → f′ ≡ p .free + 1 → BuiltFrom a (p .free) (record { gates = p .gates; free = f′ }) q l l₁
-    → g′ ≡ q .free + 1 → BuiltFrom b (q .free) (record { gates = q .gates; free = g′ }) r l₁ l₂
-    → Appended (Toffoli (p .free) (q .free) t) r z l₂ l₃ → BuiltFrom (AND a b) t p z l l₃
+pub built-and : {a b : Expr} {t k f f′ g′ p q r : ℕ} {l l₁ l₂ l₃ : List ℕ}
+    → f′ ≡ f + 1 → Wrote (tree a f) k f′ p l l₁
+    → g′ ≡ p % lineNumbers + 1 → Wrote (tree b (p % lineNumbers)) (p / lineNumbers) g′ q l₁ l₂
+    → Wrote (single (Toffoli f (p % lineNumbers) t)) (q / lineNumbers) (q % lineNumbers) r l₂ l₃ → Wrote (tree (AND a b) t) k f r l l₃
 unfolding buildFrom held second
-built-and {a} {b} {t} {f′} {g′} {p} {q} {r} {z} {l} {l₁} {l₂} {l₃} u v u′ w x =
-    let f : ℕ = p .free in
+built-and {a} {b} {t} {k} {f} {f′} {g′} {p} {q} {r} {l} {l₁} {l₂} {l₃} u v u′ w x =
+    let first = by-numbers v in
+    let rest = by-numbers w in
+    let last = by-numbers x in
     let g : ℕ = second f a in
-    let taken : q .free ≡ g = v .free-to ∙ ap (λ (n : ℕ). n + held a) u in
-    let one : Stored (buildFrom a f (f + 1)) (p .gates) (q .gates) l l₁ = rw u at (v .stored) in
-    let two : Stored (buildFrom b g (g + 1)) (q .gates) (r .gates) l₁ l₂ = rw (u′, taken) at (w .stored) in
-    let three : Stored (Toffoli f g t ∷ []) (r .gates) (z .gates) l₂ l₃ = rw taken at (x .stored) in
-    record {
+    let taken : p % lineNumbers ≡ g = first .free-to ∙ ap (λ (n : ℕ). n + held a) u in
+    let one : Stored (buildFrom a f (f + 1)) k (p / lineNumbers) l l₁ = rw u at (first .stored) in
+    let two : Stored (buildFrom b g (g + 1)) (p / lineNumbers) (q / lineNumbers) l₁ l₂ = rw (u′, taken) at (rest .stored) in
+    let three : Stored (Toffoli f g t ∷ []) (q / lineNumbers) (r / lineNumbers) l₂ l₃ = rw taken at (last .stored) in
+    wrote (record {
       stored = stored-then one (stored-then two three);
-      free-to = omega (arith, x .free-to, w .free-to, u′, taken);
-    }
+      free-to = omega (arith, last .free-to, rest .free-to, u′, taken);
+    })
 
 -- the room for node i is enough for a part of it that starts later and ends no later
-room-part : {nodes : List ℕ} {i t : ℕ} {p : Progress} {l : List ℕ} (a t′ : ℕ) (q : Progress) (l′ : List ℕ)
-    → BuildRoom nodes i t p l → Valid nodes a → t′ < q .free → length l′ ≡ length l
-    → q .gates + gateCount (treeIn nodes a) ≤ p .gates + gateCount (treeIn nodes i)
-    → q .free + most (treeIn nodes a) ≤ p .free + most (treeIn nodes i)
-    → BuildRoom nodes a t′ q l′
-room-part {nodes} {i} {t} {p} a t′ q l′ m ok h same g f =
-    record { valid = ok; taken = h; lines = omega (arith, m .lines, f, tree-lines (treeIn nodes a) t′ (q .free), tree-lines (treeIn nodes i) t (p .free)); room = omega (arith, m .room, g, same) }
+room-part : {nodes : List ℕ} {i t k f : ℕ} {l : List ℕ} (a t′ k′ f′ : ℕ) (l′ : List ℕ)
+    → Room nodes i t k f (gateCount (treeIn nodes i)) l → Operand nodes i a → t ≤ t′ → t′ < f′ → length l′ ≡ length l
+    → k′ + gateCount (treeIn nodes a) ≤ k + gateCount (treeIn nodes i)
+    → f′ + most (treeIn nodes a) ≤ f + most (treeIn nodes i)
+    → Room nodes a t′ k′ f′ (gateCount (treeIn nodes a)) l′
+room-part {nodes} {i} {t} {k} {f} a t′ k′ f′ l′ m o up h same g lines =
+    record {
+      valid = record { inputs = m .valid .inputs; ordered = m .valid .ordered; inside = o .valid .inside };
+      behind = omega (arith, m .behind);
+      taken = h;
+      lines = omega (arith, m .lines, tree-lines (treeIn nodes a) t′ f′, tree-lines (treeIn nodes i) t f);
+      few = omega (arith, m .few);
+      room = omega (arith, m .room);
+    }
 
 -- there is room for one gate more of node i
-room-gate : {nodes : List ℕ} {i t : ℕ} {p : Progress} {l : List ℕ} (k : ℕ) (l′ : List ℕ) → BuildRoom nodes i t p l → length l′ ≡ length l
-    → k + 1 ≤ p .gates + gateCount (treeIn nodes i) → fileLength (k + 1) ≤ length l′
-room-gate k l′ m same h = omega (arith, m .room, same, h)
+room-gate : {nodes : List ℕ} {i t k f : ℕ} {l : List ℕ} (j g : ℕ) (l′ : List ℕ) → Room nodes i t k f (gateCount (treeIn nodes i)) l → length l′ ≡ length l
+    → j + 1 ≤ k + gateCount (treeIn nodes i) → g < lineNumbers → (j + 1 ≤ mostGates) × (fileLength (j + 1) ≤ length l′) × (g < lineNumbers)
+room-gate j g l′ m same h low = (omega (arith, m .few), omega (arith, m .room), low)
 
 -- there is room for each gate and each operand of node i, by its kind
-module _ {nodes : List ℕ} {i t : ℕ} {p : Progress} {l : List ℕ} (m : BuildRoom nodes i t p l) where
-  pub room-one : treeIn nodes i ≡ ONE → fileLength (p .gates + 1) ≤ length l
+module _ {nodes : List ℕ} {i t k f : ℕ} {l : List ℕ} (m : Room nodes i t k f (gateCount (treeIn nodes i)) l) where
+  -- its lowest free line has a number
+  pub free-low : f < lineNumbers
+  free-low = omega (arith, m .lines)
+
+  -- there is room for so many gates as are written already
+  pub few-now : k ≤ mostGates
+  few-now = omega (arith, m .few)
+
+  abbrev OneMore : Type 0
+  OneMore = (k + 1 ≤ mostGates) × (fileLength (k + 1) ≤ length l) × (f < lineNumbers)
+
+  pub room-one : treeIn nodes i ≡ ONE → OneMore
   unfolding gateCount
-  room-one e = room-gate (p .gates) l m refl (omega (arith, ap gateCount e))
+  room-one e = room-gate k f l m refl (omega (arith, ap gateCount e)) free-low
 
-  pub room-input : {j : ℕ} → treeIn nodes i ≡ INPUT j → fileLength (p .gates + 1) ≤ length l
+  pub room-input : {j : ℕ} → treeIn nodes i ≡ INPUT j → OneMore
   unfolding gateCount
-  room-input e = room-gate (p .gates) l m refl (omega (arith, ap gateCount e))
+  room-input e = room-gate k f l m refl (omega (arith, ap gateCount e)) free-low
 
-  module _ {a : ℕ} (k : Unary NOT nodes i a) where
-    pub room-not : fileLength (p .gates + 1) ≤ length l
+  module _ {a : ℕ} (u : Unary NOT nodes i a) where
+    pub room-not : OneMore
     unfolding gateCount
-    room-not = room-gate (p .gates) l m refl (omega (arith, ap gateCount (k .is)))
+    room-not = room-gate k f l m refl (omega (arith, ap gateCount (u .is))) free-low
 
-    pub room-under : {q : Progress} {l₁ : List ℕ} → Appended (Not t) p q l l₁ → length l₁ ≡ length l → BuildRoom nodes a t q l₁
+    pub room-under : {l₁ : List ℕ} → length l₁ ≡ length l → Room nodes a t (k + 1) f (gateCount (treeIn nodes a)) l₁
     unfolding gateCount
-    room-under {q} {l₁} w same =
-        room-part a t q l₁ m (k .only .valid) (omega (arith, m .taken, w .free-to)) same
-        (omega (arith, ap gateCount (k .is), w .stored .count-to))
-        (omega (arith, ap most (k .is), most-not (treeIn nodes a), w .free-to))
+    room-under {l₁} same =
+        room-part a t (k + 1) f l₁ m (u .only) (omega arith) (m .taken) same
+        (omega (arith, ap gateCount (u .is)))
+        (omega (arith, ap most (u .is), most-not (treeIn nodes a)))
 
-  module _ {a b : ℕ} (k : Binary XOR nodes i a b) where
-    pub room-xor-first : BuildRoom nodes a t p l
+  module _ {a b : ℕ} (u : Binary XOR nodes i a b) where
+    pub room-xor-first : Room nodes a t k f (gateCount (treeIn nodes a)) l
     unfolding gateCount
     room-xor-first =
-        room-part a t p l m (k .first .valid) (m .taken) refl
-        (omega (arith, ap gateCount (k .is)))
-        (omega (arith, ap most (k .is), most-xor-first (treeIn nodes a) (treeIn nodes b)))
+        room-part a t k f l m (u .first) (omega arith) (m .taken) refl
+        (omega (arith, ap gateCount (u .is)))
+        (omega (arith, ap most (u .is), most-xor-first (treeIn nodes a) (treeIn nodes b)))
 
     -- there is room for the second wherever it starts, up to where the first ended
-    pub room-xor-second : {q s : Progress} {l₁ : List ℕ} → BuiltInto (treeIn nodes a) t p q l l₁ → length l₁ ≡ length l
-        → t < s .free → s .gates ≤ q .gates → s .free ≤ q .free → BuildRoom nodes b t s l₁
+    pub room-xor-second : {p j g : ℕ} {l₁ : List ℕ} → Wrote (tree (treeIn nodes a) t) k f p l l₁ → length l₁ ≡ length l
+        → t < g → j ≤ p / lineNumbers → g ≤ p % lineNumbers → Room nodes b t j g (gateCount (treeIn nodes b)) l₁
     unfolding gateCount
-    room-xor-second {q} {s} {l₁} v same h g f =
-        room-part b t s l₁ m (k .second .valid) h same
-        (omega (arith, ap gateCount (k .is), built-from v .stored .count-to, build-length (treeIn nodes a) t (p .free), g))
-        (omega (arith, ap most (k .is), most-xor-second (treeIn nodes a) (treeIn nodes b), built-from v .free-to, f))
+    room-xor-second {p} {j} {g} {l₁} v same h few low =
+        let w = by-numbers v in
+        room-part b t j g l₁ m (u .second) (omega arith) h same
+        (omega (arith, ap gateCount (u .is), w .stored .count-to, build-length (treeIn nodes a) t f))
+        (omega (arith, ap most (u .is), most-xor-second (treeIn nodes a) (treeIn nodes b), w .free-to))
 
-  module _ {a b : ℕ} (k : Binary AND nodes i a b) where
-    first-line : p .free + (1 + most (treeIn nodes a)) ≤ 65535
-    first-line = omega (arith, m .lines, tree-lines (treeIn nodes i) t (p .free), ap most (k .is), most-and-first (treeIn nodes a) (treeIn nodes b))
+  module _ {a b : ℕ} (u : Binary AND nodes i a b) where
+    first-line : f + (1 + most (treeIn nodes a)) < lineNumbers
+    first-line = omega (arith, m .lines, tree-lines (treeIn nodes i) t f, ap most (u .is), most-and-first (treeIn nodes a) (treeIn nodes b))
 
-    second-line : p .free + (1 + held (treeIn nodes a) + (1 + most (treeIn nodes b))) ≤ 65535
-    second-line = omega (arith, m .lines, tree-lines (treeIn nodes i) t (p .free), ap most (k .is), most-and-second (treeIn nodes a) (treeIn nodes b))
+    second-line : f + (1 + held (treeIn nodes a) + (1 + most (treeIn nodes b))) < lineNumbers
+    second-line = omega (arith, m .lines, tree-lines (treeIn nodes i) t f, ap most (u .is), most-and-second (treeIn nodes a) (treeIn nodes b))
 
     -- there is a line for the first
-    pub line-first : p .free < 65535
+    pub line-first : f + 1 < lineNumbers
     line-first = omega (arith, first-line)
 
     -- once it is taken
-    module _ {f′ : ℕ} (u : f′ ≡ p .free + 1) where
+    module _ {f′ : ℕ} (e : f′ ≡ f + 1) where
       -- there is room for the first on any line that is taken
-      pub room-and-first : {t′ : ℕ} → t′ < f′ → BuildRoom nodes a t′ (record { gates = p .gates; free = f′ }) l
+      pub room-and-first : {t′ : ℕ} → t ≤ t′ → t′ < f′ → Room nodes a t′ k f′ (gateCount (treeIn nodes a)) l
       unfolding gateCount
-      room-and-first {t′} h =
-          room-part a t′ (record { gates = p .gates; free = f′ }) l m (k .first .valid) h refl
-          (omega (arith, ap gateCount (k .is)))
-          (omega (arith, ap most (k .is), most-and-first (treeIn nodes a) (treeIn nodes b)))
+      room-and-first {t′} up h =
+          room-part a t′ k f′ l m (u .first) up h refl
+          (omega (arith, ap gateCount (u .is)))
+          (omega (arith, ap most (u .is), most-and-first (treeIn nodes a) (treeIn nodes b)))
 
-      module _ {t₁ : ℕ} {q : Progress} {l₁ : List ℕ} (v : BuiltInto (treeIn nodes a) t₁ (record { gates = p .gates; free = f′ }) q l l₁) where
+      module _ {t₁ p : ℕ} {l₁ : List ℕ} (v : Wrote (tree (treeIn nodes a) t₁) k f′ p l l₁) where
         -- there is a line for the second
-        pub line-second : q .free < 65535
-        line-second = omega (arith, second-line, built-from v .free-to)
+        pub line-second : p % lineNumbers + 1 < lineNumbers
+        line-second = omega (arith, second-line, by-numbers v .free-to)
 
         -- once it is taken too
-        module _ {g′ : ℕ} (u′ : g′ ≡ q .free + 1) where
+        module _ {g′ : ℕ} (e′ : g′ ≡ p % lineNumbers + 1) where
           -- there is room for the second on any line that is taken
-          pub room-and-second : {t′ : ℕ} → t′ < g′ → length l₁ ≡ length l → BuildRoom nodes b t′ (record { gates = q .gates; free = g′ }) l₁
+          pub room-and-second : {t′ : ℕ} → t ≤ t′ → t′ < g′ → length l₁ ≡ length l → Room nodes b t′ (p / lineNumbers) g′ (gateCount (treeIn nodes b)) l₁
           unfolding gateCount
-          room-and-second {t′} h same =
-              room-part b t′ (record { gates = q .gates; free = g′ }) l₁ m (k .second .valid) h same
-              (omega (arith, ap gateCount (k .is), built-from v .stored .count-to, build-length (treeIn nodes a) t₁ f′))
-              (omega (arith, ap most (k .is), most-and-second (treeIn nodes a) (treeIn nodes b), built-from v .free-to))
+          room-and-second {t′} up h same =
+              let w = by-numbers v in
+              room-part b t′ (p / lineNumbers) g′ l₁ m (u .second) up h same
+              (omega (arith, ap gateCount (u .is), w .stored .count-to, build-length (treeIn nodes a) t₁ f′))
+              (omega (arith, ap most (u .is), most-and-second (treeIn nodes a) (treeIn nodes b), w .free-to))
 
           -- there is room for the gate that joins them
-          pub room-toffoli : {t₂ : ℕ} {r : Progress} {l₂ : List ℕ} → BuiltInto (treeIn nodes b) t₂ (record { gates = q .gates; free = g′ }) r l₁ l₂ → length l₂ ≡ length l
-              → fileLength (r .gates + 1) ≤ length l₂
+          pub room-toffoli : {t₂ q : ℕ} {l₂ : List ℕ} → Wrote (tree (treeIn nodes b) t₂) (p / lineNumbers) g′ q l₁ l₂ → length l₂ ≡ length l
+              → (q / lineNumbers + 1 ≤ mostGates) × (fileLength (q / lineNumbers + 1) ≤ length l₂) × (q % lineNumbers < lineNumbers)
           unfolding gateCount
-          room-toffoli {t₂} {r} {l₂} w same =
-              room-gate (r .gates) l₂ m same
-              (omega (arith, ap gateCount (k .is), built-from v .stored .count-to, build-length (treeIn nodes a) t₁ f′, built-from w .stored .count-to, build-length (treeIn nodes b) t₂ g′))
+          room-toffoli {t₂} {q} {l₂} x same =
+              room-gate (q / lineNumbers) (q % lineNumbers) l₂ m same
+              (omega (arith, ap gateCount (u .is), by-numbers v .stored .count-to, build-length (treeIn nodes a) t₁ f′, by-numbers x .stored .count-to, build-length (treeIn nodes b) t₂ g′))
+              (omega arith)

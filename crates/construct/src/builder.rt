@@ -1,44 +1,48 @@
 // The gates of a tree, built from its node's operands.
-use circuit::writer::write_gate;
+use areas::writer::write_gate;
 use gate::gates::Gate;
-use program::node::Node;
-use program::node::node_at;
+use node::nodes::Node;
+use node::nodes::node_at;
 ghost use mathlib.Core.Path.{_≡_};
-ghost use Prim.Native.Nat.{_+_, _<_, _≤_};
+ghost use Prim.Native.Nat.{_+_, _≤_, _<_};
 ghost use lib.ListN.{length};
+ghost use Rattle.wire.specs.Limits.{mostGates};
 ghost use Rattle.circuit.specs.Format.{fileLength};
-ghost use Rattle.construct.specs.Tables.{treeIn};
-ghost use Rattle.construct.specs.Writing.{Appended, BuiltInto, BuildRoom};
+ghost use Rattle.program.specs.Tables.{treeIn};
+ghost use Rattle.construction.specs.Steps.{gateCount};
+ghost use Rattle.construct.specs.Writing.{lineNumbers, packed, single, tree, Wrote, Room};
 
-// How far writing has come: how many gates are written, and which line is the lowest free one.
-pub struct Progress {
-    pub gates: usize,
-    pub free: usize,
+// How many numbers a line can have: it is written in 16 bits.
+pub const LINE_NUMBERS: usize = 65536;
+
+// How far writing has come, in one number: how many gates are written, and which line is the lowest
+// free one. A struct of both would come back through memory at every call.
+fn progress(gates: usize, free: usize) -> usize
+    requires { ⌜ (gates ≤ mostGates) × (free < lineNumbers) ⌝ }
+    ensures { λ r. ⌜ r ≡ packed gates free ⌝ }
+{
+    gates * LINE_NUMBERS + free
 }
 
-// Writes the next gate.
-fn append(area: &mut [u8], p: Progress, gate: Gate) -> Progress
-    requires { ⌜ fileLength (p .gates + 1) ≤ length (now area) ⌝ }
-    ensures { λ r. ⌜ Appended gate p r (now (area .entry)) (now (area .exit)) ⌝ }
+// Writes the next gate; how far writing has come then.
+fn append(area: &mut [u8], gates: usize, free: usize, gate: Gate) -> usize
+    requires { ⌜ (gates + 1 ≤ mostGates) × (fileLength (gates + 1) ≤ length (now area)) × (free < lineNumbers) ⌝ }
+    ensures { λ r. ⌜ Wrote (single gate) gates free r (now (area .entry)) (now (area .exit)) ⌝ }
 {
-    let k = p.gates;
-    write_gate(area, k, gate);
-    Progress {
-        gates: k + 1,
-        free: p.free,
-    }
+    write_gate(area, gates, gate);
+    progress(gates + 1, free)
 }
 
 // Takes the lowest free line; the lowest that is free after it.
 fn take_line(free: usize) -> usize
-    requires { ⌜ free < 65535 ⌝ }
+    requires { ⌜ free + 1 < lineNumbers ⌝ }
     ensures { λ r. ⌜ r ≡ free + 1 ⌝ }
 {
     free + 1
 }
 
 // XORs node i into the line target, where so many gates are written and the line free is the lowest
-// free one. Calls itself on the operands, whose indices are lower.
+// free one; how far writing has come then. Calls itself on the operands, whose indices are lower.
 pub fn build(
     nodes: &[u8],
     i: usize,
@@ -46,36 +50,36 @@ pub fn build(
     gates: usize,
     free: usize,
     area: &mut [u8],
-) -> Progress
-    requires { ⌜ BuildRoom (now nodes) i target (record { gates = gates; free = free }) (now area) ⌝ }
-    ensures { λ r. ⌜ BuiltInto (treeIn (now (nodes .entry)) i) target (record { gates = gates; free = free }) r (now (area .entry)) (now (area .exit)) ⌝ }
+) -> usize
+    requires { ⌜ Room (now nodes) i target gates free (gateCount (treeIn (now nodes) i)) (now area) ⌝ }
+    ensures { λ r. ⌜ Wrote (tree (treeIn (now (nodes .entry)) i) target) gates free r (now (area .entry)) (now (area .exit)) ⌝ }
 {
     let node = node_at(nodes, i);
     match node {
-        Node::Zero => Progress { gates, free },
-        Node::One => append(area, Progress { gates, free }, Gate::Not { target }),
-        Node::Input(j) => append(
-            area,
-            Progress { gates, free },
-            Gate::Cnot { control: j, target },
-        ),
+        Node::Zero => progress(gates, free),
+        Node::One => append(area, gates, free, Gate::Not { target }),
+        Node::Input(j) => append(area, gates, free, Gate::Cnot { control: j, target }),
         Node::Not(a) => {
-            let q = append(area, Progress { gates, free }, Gate::Not { target });
-            build(nodes, a as usize, target, q.gates, q.free, area)
+            append(area, gates, free, Gate::Not { target });
+            build(nodes, a as usize, target, gates + 1, free, area)
         }
         Node::Xor(a, b) => {
-            let q = build(nodes, a as usize, target, gates, free, area);
-            build(nodes, b as usize, target, q.gates, q.free, area)
+            let p = build(nodes, a as usize, target, gates, free, area);
+            let done = p / LINE_NUMBERS;
+            let next = p % LINE_NUMBERS;
+            build(nodes, b as usize, target, done, next, area)
         }
         Node::And(a, b) => {
             let first = free as u16;
-            let q = build(nodes, a as usize, first, gates, take_line(free), area);
-            let next = q.free;
+            let p = build(nodes, a as usize, first, gates, take_line(free), area);
+            let done = p / LINE_NUMBERS;
+            let next = p % LINE_NUMBERS;
             let second = next as u16;
-            let r = build(nodes, b as usize, second, q.gates, take_line(next), area);
+            let q = build(nodes, b as usize, second, done, take_line(next), area);
             append(
                 area,
-                r,
+                q / LINE_NUMBERS,
+                q % LINE_NUMBERS,
                 Gate::Toffoli {
                     first,
                     second,

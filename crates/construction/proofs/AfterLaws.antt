@@ -9,7 +9,7 @@ use lib.Dec.{ltb}
 use borrow.Author.Tests.{ltb-true, ltb-false}
 use Rattle.wire.specs.Bits.{bit}
 use Rattle.wire.proofs.BitLaws.{bits-count, bits-are}
-use Rattle.wire.proofs.CheckLaws.{by-test}
+use Rattle.refusal.proofs.CheckLaws.{by-test}
 use Rattle.wire.proofs.ListLaws.{tabulate-length, tabulate-at}
 use Rattle.construction.specs.Theorems.{Zeros, EveryStart, Start, After, targetsAfter, AfterSays}
 

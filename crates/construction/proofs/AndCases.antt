@@ -3,12 +3,12 @@ use mathlib.Core.Path.{_≡_, refl}
 use mathlib.Core.List.{[], _∷_, _++_}
 use lib.Dec.{eqb}
 use Rattle.wire.specs.Bits.{xorBit}
-use Rattle.wire.specs.Checks.{lowestFrom}
+use Rattle.refusal.specs.Checks.{lowestFrom}
 use Rattle.gate.specs.declared.gates.Gate.the-variants.{Cnot, Toffoli}
 use Rattle.gate.specs.Gates.{target}
 use Rattle.gate.specs.Running.{addend, step, run, without, uncompute}
 use Rattle.gate.proofs.OrderCase.{fourInputs}
-use Rattle.program.specs.Exprs.{Expr, INPUT, XOR, AND}
+use Rattle.node.specs.Exprs.{Expr, INPUT, XOR, AND}
 use Rattle.construction.specs.Pools.{isAmong, allFree, lowestFree, takeLine, freeAll}
 use Rattle.construction.specs.Construction.{build, share, shares, allShares, circuitGates, linesNeeded}
 

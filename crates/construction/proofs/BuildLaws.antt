@@ -1,7 +1,7 @@
 -- The theorems on building and on a share, from the laws of the construction by numbers. Assumes nothing.
 use Prim.Native.Nat.{ℕ}
 use native.Mathlib.Omega.{arith}
-use Rattle.program.specs.Exprs.{Expr}
+use Rattle.node.specs.Exprs.{Expr}
 use Rattle.construction.specs.Theorems.{Apart, BuildComputes, BuildLeaves, TargetNoControl, ShareFormed, ShareRestores}
 use Rattle.construction.proofs.Numbers.{ApartFrom}
 use Rattle.construction.proofs.PoolLaws.{tree-gates, tree-lines, share-gates}

@@ -12,8 +12,8 @@ use Rattle.gate.specs.declared.gates.Gate.the-variants.{Not, Cnot, Toffoli}
 use Rattle.gate.specs.Gates.{target}
 use Rattle.gate.specs.Running.{addend, step, run}
 use Rattle.gate.proofs.StepLaws.{length-run, step-target, step-other, step-bits, run-append, run-bits}
-use Rattle.program.specs.Exprs.{Expr, ZERO, ONE, INPUT, NOT, XOR, AND, value}
-use Rattle.program.proofs.ValueLaws.{value-bit}
+use Rattle.node.specs.Exprs.{Expr, ZERO, ONE, INPUT, NOT, XOR, AND, value}
+use Rattle.node.proofs.ValueLaws.{value-bit}
 use Rattle.construction.specs.Theorems.{Zeros, Computes}
 use Rattle.construction.proofs.AfterLaws.{same-front}
 use Rattle.construction.proofs.Numbers.{held, most, second, buildFrom, ApartFrom}

@@ -6,12 +6,13 @@ use mathlib.Core.List.{List, [], _∷_, _++_}
 use lib.ListN.{length, length-append}
 use lib.Dec.{eqb}
 use borrow.Author.Tests.{eq-eqb}
+use Rattle.wire.specs.Limits.{mostGates}
 use Rattle.gate.specs.declared.gates.Gate.{Gate}
 use Rattle.gate.specs.declared.gates.Gate.the-variants.{Toffoli}
 use Rattle.gate.specs.Gates.{target}
 use Rattle.gate.specs.Running.{without, uncompute}
 use Rattle.gate.proofs.UncomputeLaws.{without-none, without-both, uncompute-length}
-use Rattle.program.specs.Exprs.{Expr, ZERO, ONE, INPUT, NOT, XOR, AND, size}
+use Rattle.node.specs.Exprs.{Expr, ZERO, ONE, INPUT, NOT, XOR, AND, size}
 use Rattle.construction.specs.Construction.{circuitGates}
 use Rattle.construction.specs.Counting.{gatesShown}
 use Rattle.construction.specs.Steps.{gateCount, ownCount, shareCount, sharesCount}
@@ -120,10 +121,10 @@ unfolding shareCount
 share-within-size e = omega (arith, own-or-fewer e, own-few e)
 
 -- what counting shows is exact up to 8,000 gates, and more where there are more
-pub shown-within : (k : ℕ) → gatesShown k ≤ 8000 → gatesShown k ≡ k
+pub shown-within : (k : ℕ) → gatesShown k ≤ mostGates → gatesShown k ≡ k
 unfolding gatesShown
 shown-within k h = refl
 
-pub shown-over : (k : ℕ) → 8000 < gatesShown k → 8000 < k
+pub shown-over : (k : ℕ) → mostGates < gatesShown k → mostGates < k
 unfolding gatesShown
 shown-over k h = h

@@ -14,7 +14,7 @@ use Rattle.gate.specs.Theorems.{Spares}
 use Rattle.gate.proofs.AllLaws.{all-append, all-map}
 use Rattle.gate.proofs.StepLaws.{controls-map, run-other}
 use Rattle.gate.proofs.WellFormedLaws.{ToffoliLines, not-formed, cnot-formed, toffoli-formed}
-use Rattle.program.specs.Exprs.{Expr, ZERO, ONE, INPUT, NOT, XOR, AND, InputsBelow}
+use Rattle.node.specs.Exprs.{Expr, ZERO, ONE, INPUT, NOT, XOR, AND, InputsBelow}
 use Rattle.construction.proofs.Numbers.{held, most, second, buildFrom, ApartFrom}
 
 -- nothing taken is freed before the share is over

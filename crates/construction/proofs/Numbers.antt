@@ -5,7 +5,7 @@ use lib.Dec.{eqb}
 use Rattle.gate.specs.declared.gates.Gate.{Gate}
 use Rattle.gate.specs.declared.gates.Gate.the-variants.{Not, Cnot, Toffoli}
 use Rattle.gate.specs.Running.{uncompute}
-use Rattle.program.specs.Exprs.{Expr, ZERO, ONE, INPUT, NOT, XOR, AND, InputsBelow}
+use Rattle.node.specs.Exprs.{Expr, ZERO, ONE, INPUT, NOT, XOR, AND, InputsBelow}
 
 -- how many work lines a tree still holds when it is built
 unfoldable pub held : Expr → ℕ

@@ -9,10 +9,11 @@ use mathlib.Core.List.{List, [], _∷_, _++_}
 use lib.ListN.{length, getD, take, drop}
 use lib.Dec.{eqb}
 use borrow.Author.Tests.{eqb-true, eqb-false, ne-eqb}
-use Rattle.wire.specs.Checks.{lowestFrom}
-use Rattle.wire.proofs.CheckLaws.{by-test, lowest-before, lowest-none}
+use Rattle.refusal.specs.Checks.{lowestFrom}
+use Rattle.refusal.proofs.CheckLaws.{by-test, lowest-before, lowest-none}
 use Rattle.gate.specs.declared.gates.Gate.{Gate}
-use Rattle.program.specs.Exprs.{Expr, ZERO, ONE, INPUT, NOT, XOR, AND}
+use Rattle.gate.specs.declared.gates.Gate.the-variants.{Toffoli}
+use Rattle.node.specs.Exprs.{Expr, ZERO, ONE, INPUT, NOT, XOR, AND}
 use Rattle.construction.specs.Pools.{Pool, isAmong, allFree, lowestFree, takeLine, freeAll}
 use Rattle.construction.specs.Theorems.{LowestFree, treeGates, treeLines, firstBuilt, firstShares, shareOf}
 use Rattle.construction.specs.Construction.{Built, build, share, shares, allShares, circuitGates, linesNeeded}
@@ -55,6 +56,35 @@ take-behind f k m =
 built-same : {gs hs : List Gate} (f : ℕ) {k l m n : ℕ} → gs ≡ hs → k ≡ l → m ≡ n → _≡_ {A = Built} (record { gates = gs; pool = inUse f k m }) (record { gates = hs; pool = inUse f l n })
 built-same f p q r = rw (p, q, r) refl
 
+-- the most lines in use together, where one is taken and then x more are
+peak-tree : (m k x : ℕ) → max (max m (k + 1)) (k + 1 + x) ≡ max m (k + 1 + x)
+peak-tree m k x = omega arith
+
+-- where the second tree holds at least what the first does
+peak-last : (m a b : ℕ) → a ≤ b → max (max m a) b ≡ max m b
+peak-last m a b h = omega arith
+
+peak-and : (m k x y : ℕ) → max (max (max (max m (k + 1)) (k + 1 + x)) (k + 1 + x + 1)) (k + 1 + x + 1 + y) ≡ max m (k + (1 + x + (1 + y)))
+peak-and m k x y =
+    let n : k + 1 + x + 1 + y ≡ k + (1 + x + (1 + y)) = omega arith in
+    ap (λ (c : ℕ). max (max c (k + 1 + x + 1)) (k + 1 + x + 1 + y)) (peak-tree m k x)
+    ∙ peak-tree (max m (k + 1 + x)) (k + 1 + x) y
+    ∙ peak-last m (k + 1 + x) (k + 1 + x + 1 + y) (omega arith)
+    ∙ ap (max m) n
+
+-- an AND from its parts: the lines of its operands, and what they build
+and-parts : (a b : Expr) (t : ℕ) (p : Pool) {c d : ℕ} (x y : Built)
+    → lowestFree p ≡ c → build a c (takeLine p) ≡ x → lowestFree (x .pool) ≡ d → build b d (takeLine (x .pool)) ≡ y
+    → build (AND a b) t p ≡ record { gates = x .gates ++ (y .gates ++ (Toffoli c d t ∷ [])); pool = y .pool }
+unfolding build
+and-parts a b t p x y e₁ e₂ e₃ e₄ = rw (e₁, e₂, e₃, e₄) refl
+
+-- and its gates by numbers
+and-gates : (a b : Expr) (t f : ℕ) {g c d : ℕ} → g ≡ f + 1 → c ≡ second f a → d ≡ second f a + 1
+    → (buildFrom a f g ++ (buildFrom b c d ++ (Toffoli f c t ∷ []))) ≡ buildFrom (AND a b) t f
+unfolding buildFrom
+and-gates a b t f e₁ e₂ e₃ = rw (e₁, e₂, e₃) refl
+
 -- a tree by numbers, where k lines are in use, from line f on
 pub build-is : (e : Expr) (t f k m : ℕ) → k ≤ m → build e t (inUse f k m) ≡ record { gates = buildFrom e t (f + k); pool = inUse f (k + held e) (max m (k + most e)) }
 unfolding build buildFrom held most second
@@ -69,12 +99,16 @@ build-is (XOR a b) t f k m h =
 build-is (AND a b) t f k m h =
     let k₁ : ℕ = k + 1 + held a in
     let m₁ : ℕ = max (max m (k + 1)) (k + 1 + most a) in
+    let x : Built = record { gates = buildFrom a (f + k) (f + (k + 1)); pool = inUse f k₁ m₁ } in
+    let y : Built = record { gates = buildFrom b (f + k₁) (f + (k₁ + 1)); pool = inUse f (k₁ + 1 + held b) (max (max m₁ (k₁ + 1)) (k₁ + 1 + most b)) } in
     let one : f + (k + 1) ≡ f + k + 1 = omega arith in
     let two : f + k₁ ≡ second (f + k) a = omega arith in
     let three : f + (k₁ + 1) ≡ second (f + k) a + 1 = omega arith in
-    rw (lowest-behind f k m, take-behind f k m, build-is a (f + k) f (k + 1) (max m (k + 1)) (omega arith))
-    (rw (lowest-behind f k₁ m₁, take-behind f k₁ m₁, build-is b (f + k₁) f (k₁ + 1) (max m₁ (k₁ + 1)) (omega arith))
-    (rw (one, three, two) (built-same f refl (omega arith) (omega arith))))
+    and-parts a b t (inUse f k m) x y (lowest-behind f k m)
+    (ap (build a (f + k)) (take-behind f k m) ∙ build-is a (f + k) f (k + 1) (max m (k + 1)) (omega arith))
+    (lowest-behind f k₁ m₁)
+    (ap (build b (f + k₁)) (take-behind f k₁ m₁) ∙ build-is b (f + k₁) f (k₁ + 1) (max m₁ (k₁ + 1)) (omega arith))
+    ∙ built-same f (and-gates a b t (f + k) one two three) (omega arith) (peak-and m k (held a) (held b))
 
 -- the same where no line was taken yet
 all-free : (f : ℕ) → allFree f ≡ inUse f 0 0

@@ -14,7 +14,7 @@ use Rattle.gate.specs.Gates.{WellFormed, All}
 use Rattle.gate.specs.Running.{run}
 use Rattle.gate.proofs.AllLaws.{all-append}
 use Rattle.gate.proofs.StepLaws.{length-run, run-append, run-bits}
-use Rattle.program.specs.Exprs.{Expr, ZERO, value, EachBelow}
+use Rattle.node.specs.Exprs.{Expr, ZERO, value, EachBelow}
 use Rattle.construction.specs.Construction.{shares, circuitGates}
 use Rattle.construction.specs.Theorems.{Zeros, CircuitFormed, Start, firstBuilt, firstShares, shareOf, After, SharesRestore}
 use Rattle.construction.proofs.Numbers.{shareFrom, sharesFrom, mostOf, ApartFrom}

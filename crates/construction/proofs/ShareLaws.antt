@@ -13,7 +13,7 @@ use Rattle.gate.specs.Running.{run, without, uncompute}
 use Rattle.gate.proofs.AllLaws.{all-append, all-reverse}
 use Rattle.gate.proofs.UncomputeLaws.{all-without, without-target}
 use Rattle.gate.proofs.StepLaws.{run-append, run-other, uncomputes}
-use Rattle.program.specs.Exprs.{Expr}
+use Rattle.node.specs.Exprs.{Expr}
 use Rattle.construction.specs.Theorems.{Zeros, Computes}
 use Rattle.construction.proofs.Numbers.{most, buildFrom, shareFrom, ApartFrom}
 use Rattle.construction.proofs.LineLaws.{build-formed, target-no-control-from}

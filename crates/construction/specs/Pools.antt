@@ -4,7 +4,7 @@ use mathlib.Core.Bool.{Bool, false, _||_}
 use mathlib.Core.List.{List, [], _∷_}
 use lib.ListN.{length}
 use lib.Dec.{eqb}
-use Rattle.wire.specs.Checks.{lowestFrom}
+use Rattle.refusal.specs.Checks.{lowestFrom}
 
 -- the first work line, the lines in use, and the most that were in use together
 pub record Pool : Type 0 where

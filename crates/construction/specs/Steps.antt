@@ -1,7 +1,7 @@
 -- What the code that counts and builds is held to: no service's definition is here.
 use Prim.Native.Nat.{ℕ, _+_, _*_, _-_}
 use mathlib.Core.List.{List, [], _∷_}
-use Rattle.program.specs.Exprs.{Expr, ZERO, ONE, INPUT, NOT, XOR, AND}
+use Rattle.node.specs.Exprs.{Expr, ZERO, ONE, INPUT, NOT, XOR, AND}
 use Rattle.construction.specs.Pools.{Pool, allFree, takeLine, freeAll}
 use Rattle.construction.specs.Construction.{build}
 

@@ -12,7 +12,7 @@ use Rattle.gate.specs.declared.gates.Gate.{Gate}
 use Rattle.gate.specs.Gates.{WellFormed, All}
 use Rattle.gate.specs.Running.{run}
 use Rattle.gate.specs.Theorems.{Spares}
-use Rattle.program.specs.Exprs.{Expr, ZERO, value, InputsBelow, EachBelow}
+use Rattle.node.specs.Exprs.{Expr, ZERO, value, InputsBelow, EachBelow}
 use Rattle.construction.specs.Pools.{Pool, lowestFree, isAmong, allFree}
 use Rattle.construction.specs.Construction.{Built, build, share, shares, circuitGates, linesNeeded}
 

@@ -7,23 +7,23 @@ use mathlib.Core.List.{List, _++_}
 use lib.ListN.{length, getD, drop, List·getD-append}
 use lib.Dec.{leb}
 use borrow.Author.Tests.{le-leb, lt-leb, lt-ltb, le-ltb}
-use Rattle.wire.specs.Answers.{Answer, result, refused, refuse}
+use Rattle.refusal.specs.Answers.{Answer, result, refused, refuse}
 use Rattle.wire.specs.Bits.{bitsFit, Bits}
-use Rattle.wire.specs.Contents.{bodyOf}
-use Rattle.wire.specs.declared.refusals.Refusal.the-variants as cause
+use Rattle.contents.specs.Contents.{bodyOf}
+use Rattle.contents.specs.Arity.{inputsOf, outputsOf}
+use Rattle.refusal.specs.declared.causes.Refusal.the-variants as cause
 use Rattle.wire.proofs.BitLaws.{bits-count, bits-are}
-use Rattle.program.specs.declared.node.Node.{Node}
+use Rattle.node.specs.declared.nodes.Node.{Node}
 use Rattle.program.specs.declared.reader.Head.{Head}
-use Rattle.program.specs.Exprs.{ZERO, value}
-use Rattle.program.specs.Nodes.{nodesIn}
-use Rattle.program.specs.Programs.{Program, outputTree, outputValue, nodeValues}
-use Rattle.wire.specs.Arity.{inputsOf, outputsOf}
+use Rattle.node.specs.Exprs.{ZERO, value}
+use Rattle.node.specs.Nodes.{nodesIn}
+use Rattle.program.specs.Programs.{Program, outputTree, outputValue}
+use Rattle.node.specs.Trees.{nodeValues, trees}
 use Rattle.program.specs.Reading.{nodesOf, outputAt, programOf, readProgram}
-use Rattle.program.specs.Trees.{trees}
-use Rattle.program.specs.Steps.{Fillable}
+use Rattle.node.specs.Steps.{Fillable}
 use Rattle.program.proofs.AcceptedLaws.{Read, nodes-length, same-nodes, outputs-length, output-is, inputs-is, table-ok}
 use Rattle.program.proofs.ReadingLaws.{nodes-counted, outputs-long}
-use Rattle.program.proofs.ValueLaws.{values-length, values-at}
+use Rattle.node.proofs.ValueLaws.{values-length, values-at}
 use Rattle.evaluate.specs.Evaluating.{evaluateFile, evaluateOf}
 
 module _ (f list x : List ℕ) (k : ℕ) where

@@ -7,12 +7,12 @@ use lib.ListN.{length, take}
 use lib.Seq.{length-take-le, getD-take}
 use Rattle.wire.specs.Bits.{bit, Bits}
 use Rattle.wire.proofs.FillLaws.{Filled, filled-front}
-use Rattle.program.specs.Nodes.{nodesIn}
-use Rattle.program.specs.Programs.{nodeValues}
-use Rattle.program.specs.Steps.{Fillable}
-use Rattle.program.specs.Exprs.{value}
-use Rattle.program.proofs.FilledLaws.{entries-count}
-use Rattle.program.proofs.ValueLaws.{values-bits}
+use Rattle.node.specs.Nodes.{nodesIn}
+use Rattle.node.specs.Trees.{nodeValues}
+use Rattle.node.specs.Steps.{Fillable}
+use Rattle.node.specs.Exprs.{value}
+use Rattle.node.proofs.FilledLaws.{entries-count}
+use Rattle.node.proofs.ValueLaws.{values-bits}
 
 module _ (body x : List ℕ) where
   -- a loop has stored the values of the first i nodes

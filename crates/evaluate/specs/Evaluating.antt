@@ -3,10 +3,11 @@ use Prim.Native.Nat.{ℕ}
 use mathlib.Core.List.{List, _++_}
 use lib.ListN.{length, drop}
 use lib.Dec.{leb, ltb}
-use Rattle.wire.specs.Answers.{Answer, result, refused, refuse, check, andThen, mapAnswer}
+use Rattle.refusal.specs.Answers.{Answer, result, refused, refuse, check, andThen, mapAnswer}
 use Rattle.wire.specs.Bits.{bitsFit}
-use Rattle.wire.specs.declared.refusals.Refusal.the-variants as cause
-use Rattle.program.specs.Programs.{Program, outputValue, nodeValues}
+use Rattle.refusal.specs.declared.causes.Refusal.the-variants as cause
+use Rattle.program.specs.Programs.{Program, outputValue}
+use Rattle.node.specs.Trees.{nodeValues}
 use Rattle.program.specs.Reading.{readProgram}
 use Rattle.evaluate.specs.declared.Evaluated.{Evaluated}
 use Rattle.evaluate.specs.declared.Evaluated.the-variants.{Value, Refused}

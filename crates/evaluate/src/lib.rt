@@ -7,8 +7,8 @@ use program::reader::node_body;
 use program::reader::output_at;
 use program::reader::output_body;
 use program::reader::read_program;
+use refusal::causes::Refusal;
 use wire::bits::bits_fit;
-use wire::refusals::Refusal;
 ghost use mathlib.Core.Path.{_≡_};
 ghost use Rattle.evaluate.specs.Evaluating.{evaluateOf, evaluated};
 

@@ -1,23 +1,23 @@
 // The values of the nodes of a table, front to back, each from those before it.
-use program::node::Node;
-use program::node::node_at;
+use node::nodes::Node;
+use node::nodes::node_at;
 use wire::bits::and_bits;
 use wire::bits::xor_bits;
 ghost use mathlib.Core.Path.{_≡_};
-ghost use mathlib.Core.List.{_++_};
+ghost use mathlib.Core.List.{[], _∷_, _++_};
 ghost use Prim.Native.Nat.{_/_};
 ghost use lib.ListN.{length, drop};
-ghost use Rattle.program.specs.Exprs.{value};
-ghost use Rattle.program.specs.Nodes.{nodesIn};
-ghost use Rattle.program.specs.Programs.{nodeValues};
-ghost use Rattle.program.specs.Steps.{NodeOk, Fillable, NextOf};
+ghost use Rattle.node.specs.Exprs.{value};
+ghost use Rattle.node.specs.Nodes.{nodesIn, NodeOk};
+ghost use Rattle.node.specs.Trees.{nodeValues};
+ghost use Rattle.node.specs.Steps.{Fillable, NextOf};
 ghost use Rattle.wire.specs.Bits.{Bits};
 
 // The value of a node, where values has those of the nodes before it.
 fn node_value(node: Node, values: &[u8], inputs: &[u8]) -> u8
     requires { ⌜ NodeOk (length (now inputs)) (length (now values)) node ⌝ }
     requires { ⌜ Bits (now values) × Bits (now inputs) ⌝ }
-    ensures { λ r. ⌜ NextOf (λ e. value e (now (inputs .entry))) node (now (values .entry)) r ⌝ }
+    ensures { λ r. ⌜ NextOf (λ e. value e (now (inputs .entry)) ∷ []) node (now (values .entry)) (r ∷ []) ⌝ }
 {
     match node {
         Node::Zero => 0,

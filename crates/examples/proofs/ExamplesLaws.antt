@@ -5,40 +5,45 @@ use mathlib.Core.Path.{refl, ap}
 use mathlib.Core.List.{List, [], _∷_, flatMap}
 use borrow.Author.Tests.{leb-true}
 use Rattle.wire.specs.Bits.{xorBit, bitsFit}
-use Rattle.wire.specs.Checks.{lowestFrom}
-use Rattle.wire.specs.Contents.{tableFits, entriesFrom, entriesFit, entriesBytes, contentsBytes}
-use Rattle.wire.specs.Arity.{arityFits}
+use Rattle.refusal.specs.Checks.{lowestFrom}
+use Rattle.contents.specs.Contents.{tableFits, entriesFrom, entriesFit, entriesBytes, contentsBytes}
+use Rattle.contents.specs.Arity.{arityFits}
 use Rattle.wire.specs.Lists.{tabulateFrom}
 use Rattle.gate.specs.Gates.{target, wellFormed}
-use Rattle.gate.specs.GateBytes.{gateBytes, gatesBytes, gateAt, gateFits, fieldsFit}
+use Rattle.gate_bytes.specs.GateBytes.{gateBytes, gatesBytes, gateAt, gateFits, fieldsFit}
 use Rattle.gate.specs.Running.{addend, step, run, without, uncompute}
-use Rattle.circuit.specs.Format.{openingBytes, circuitFile}
+use Rattle.circuit.specs.Format.{openingBytes, circuitFile, fileLength}
+use Rattle.wire.specs.Limits.{mostGates}
 use Rattle.circuit.specs.Reading as circuit
 use Rattle.run.specs.RunCircuit.{runForwards}
-use Rattle.program.specs.Exprs.{size}
-use Rattle.program.specs.Nodes.{operandsFit, nodeAt, nodeFits}
+use Rattle.node.specs.Exprs.{size}
+use Rattle.node.specs.NodeBytes.{nodeBytes}
+use Rattle.node.specs.Nodes.{operandsFit, nodeAt, nodeFits}
 use Rattle.program.specs.Programs.{outputTree}
+use Rattle.program.specs.Format.{programFile}
 use Rattle.program.specs.Reading.{lengthsFit, outputFits, programOf, readBodies, readProgram}
-use Rattle.program.specs.Trees.{treeOf, treesFrom, trees}
+use Rattle.node.specs.Trees.{treeOf, treesFrom, trees}
 use Rattle.construction.specs.Pools.{isAmong, allFree, lowestFree, takeLine, freeAll}
 use Rattle.construction.specs.Construction.{build, share, shares, allShares, linesNeeded}
 use Rattle.construction.specs.Construction as construction
 use Rattle.construction.specs.Counting.{gatesShown}
 use Rattle.sizing.specs.Sizing.{shown, nodeSizes}
-use Rattle.compile.specs.Compiling.{outputTrees, programCircuit}
-use Rattle.text.specs.Lines.{digitCount, decimal, field, line, gateLine, firstLine, refusedLine, listing}
+use Rattle.compilation.specs.Compiling.{outputTrees, programCircuit}
+use Rattle.line.specs.Lines.{digitCount, decimal, field, line, refusedLine}
+use Rattle.text.specs.Listings.{gateLine, firstLine, listing}
 use Rattle.examples.specs.Examples.{wholeFile, norFile, threeFile, xorFile, Examples}
 use Rattle.examples.proofs.RowLaws.{Known, lines-refused, area-refused, written, lists-refused, row}
 
 pub examples : Examples
-unfolding readProgram readBodies tableFits entriesFit entriesFrom lengthsFit arityFits nodeFits operandsFit outputFits programOf nodeAt lowestFrom size nodeSizes shown programCircuit outputTrees outputTree tabulateFrom trees treesFrom treeOf construction.circuitGates allShares shares share build isAmong allFree lowestFree takeLine freeAll linesNeeded gatesShown uncompute without target circuitFile openingBytes contentsBytes entriesBytes gatesBytes gateBytes runForwards circuit.readWithLines circuit.readCircuit circuit.readHead circuit.headIn circuit.circuitOf circuit.lengthsFit circuit.rangesFit gateFits fieldsFit wellFormed gateAt bitsFit run step addend xorBit listing firstLine gateLine refusedLine line field decimal digitCount flatMap
+unfolding programFile nodeBytes readProgram readBodies tableFits entriesFit entriesFrom lengthsFit arityFits nodeFits operandsFit outputFits programOf nodeAt lowestFrom size nodeSizes shown programCircuit outputTrees outputTree tabulateFrom trees treesFrom treeOf construction.circuitGates allShares shares share build isAmong allFree lowestFree takeLine freeAll linesNeeded gatesShown uncompute without target circuitFile openingBytes contentsBytes entriesBytes gatesBytes gateBytes runForwards circuit.readWithLines circuit.readCircuit circuit.readHead circuit.headIn circuit.circuitOf circuit.lengthsFit circuit.rangesFit gateFits fieldsFit wellFormed gateAt bitsFit run step addend xorBit listing firstLine gateLine refusedLine line field decimal digitCount flatMap
 examples =
     let whole : Known wholeFile = record { reads = refl; small = refl; few = omega arith } in
     let nor : Known norFile = record { reads = refl; small = refl; few = omega arith } in
     let three : Known threeFile = record { reads = refl; small = refl; few = omega arith } in
     let xor : Known xorFile = record { reads = refl; small = refl; few = omega arith } in
     record {
-      whole = row whole _ (omega arith) (omega arith) (leb-true _ 64028 refl) refl;
+      whole = row whole _ (omega arith) (omega arith) (leb-true _ (fileLength mostGates) refl) refl refl;
+      kinds-bytes = record { writes = refl; reads = refl };
       whole-length = refl;
       whole-bytes = record { writes = refl; reads = refl };
       wide-bytes = record { writes = refl; reads = refl };
@@ -47,8 +52,8 @@ examples =
       whole-refused = lists-refused whole 1 (omega arith) (omega arith) (omega arith);
       whole-target = λ grant sizes area a b c d. ap (λ (file : List ℕ). runForwards file (1 ∷ 1 ∷ 1 ∷ 0 ∷ 0 ∷ [])) (written whole grant sizes area a b c d);
       whole-line = λ grant sizes area a b c d. ap (λ (file : List ℕ). runForwards file (1 ∷ 1 ∷ 1 ∷ 1 ∷ 0 ∷ [])) (written whole grant sizes area a b c d);
-      nor = row nor _ (omega arith) (omega arith) (leb-true _ 64028 refl) refl;
-      three = row three _ (omega arith) (omega arith) (leb-true _ 64028 refl) refl;
+      nor = row nor _ (omega arith) (omega arith) (leb-true _ (fileLength mostGates) refl) refl refl;
+      three = row three _ (omega arith) (omega arith) (leb-true _ (fileLength mostGates) refl) refl refl;
       three-grant = λ sizes area. lines-refused three 3 sizes area (omega arith) (omega arith);
-      xor-self = row xor _ (omega arith) (omega arith) (leb-true _ 64028 refl) refl;
+      xor-self = row xor _ (omega arith) (omega arith) (leb-true _ (fileLength mostGates) refl) refl refl;
     }

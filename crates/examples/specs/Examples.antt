@@ -1,23 +1,25 @@
--- The starred examples of 01, as one table about the definitions of reading, compiling, running and listing, and the bytes of two circuit files.
+-- The starred examples of 01, as one table about the definitions of reading, compiling, running and listing, and the bytes of program files and of two circuit files.
 use Prim.Native.Nat.{ℕ, _≤_}
 use Prim.Native.String.{String}
 use mathlib.Core.Path.{_≡_}
 use mathlib.Core.List.{List, [], _∷_, _++_}
 use lib.ListN.{length, drop, replicate}
-use Rattle.wire.specs.Answers.{result, refused}
+use Rattle.refusal.specs.Answers.{result, refused}
 use Rattle.gate.specs.declared.gates.Gate.the-variants.{Cnot, Toffoli}
 use Rattle.gate.specs.declared.gates.Gate.the-variants as gate
 use Rattle.circuit.specs.Circuits.{Circuit, headOf}
 use Rattle.circuit.specs.Format.{circuitFile}
 use Rattle.circuit.specs.Reading.{readCircuit}
 use Rattle.run.specs.RunCircuit.{runForwards}
-use Rattle.program.specs.declared.node.Node.the-variants.{Input, Xor, And}
-use Rattle.program.specs.declared.node.Node.the-variants as node
+use Rattle.node.specs.declared.nodes.Node.the-variants.{Input, Xor, And}
+use Rattle.node.specs.declared.nodes.Node.the-variants as node
 use Rattle.program.specs.Programs.{Program}
+use Rattle.program.specs.Format.{programFile}
 use Rattle.program.specs.Reading.{readProgram}
-use Rattle.compile.specs.Compiling.{compileOf}
-use Rattle.compile.specs.Demand.{fileWritten}
-use Rattle.text.specs.Lines.{ascii, listingOf}
+use Rattle.compilation.specs.Compiling.{compileOf}
+use Rattle.compilation.specs.Demand.{fileWritten}
+use Rattle.line.specs.Lines.{ascii}
+use Rattle.list.specs.Listing.{listingOf}
 
 -- the file of the whole case, in hex as in 01: the table of contents, the numbers of inputs and outputs, the nodes, the output's node
 abbrev pub wholeFile : List ℕ
@@ -97,9 +99,34 @@ xorFile =
     ∷ 4 ∷ 0 ∷ 0 ∷ 0 ∷ 0 ∷ 0
     ∷ 1 ∷ 0 ∷ []
 
+-- a program with a node of each kind and two outputs, and no number twice where two could be exchanged
+abbrev pub kindsProgram : Program
+kindsProgram = record { inputs = 3; nodes = node.Zero ∷ node.One ∷ Input 2 ∷ node.Not 1 ∷ Xor 3 2 ∷ And 4 0 ∷ []; outputs = 5 ∷ 3 ∷ [] }
+
+-- its file
+abbrev pub kindsFile : List ℕ
+kindsFile =
+    0x03 ∷ 0x00
+    ∷ 0x01 ∷ 0x00 ∷ 0x20 ∷ 0x00 ∷ 0x00 ∷ 0x00 ∷ 0x04 ∷ 0x00 ∷ 0x00 ∷ 0x00
+    ∷ 0x02 ∷ 0x00 ∷ 0x24 ∷ 0x00 ∷ 0x00 ∷ 0x00 ∷ 0x24 ∷ 0x00 ∷ 0x00 ∷ 0x00
+    ∷ 0x03 ∷ 0x00 ∷ 0x48 ∷ 0x00 ∷ 0x00 ∷ 0x00 ∷ 0x04 ∷ 0x00 ∷ 0x00 ∷ 0x00
+    ∷ 0x03 ∷ 0x00 ∷ 0x02 ∷ 0x00
+    ∷ 0x00 ∷ 0x00 ∷ 0x00 ∷ 0x00 ∷ 0x00 ∷ 0x00
+    ∷ 0x01 ∷ 0x00 ∷ 0x00 ∷ 0x00 ∷ 0x00 ∷ 0x00
+    ∷ 0x02 ∷ 0x00 ∷ 0x02 ∷ 0x00 ∷ 0x00 ∷ 0x00
+    ∷ 0x03 ∷ 0x00 ∷ 0x01 ∷ 0x00 ∷ 0x00 ∷ 0x00
+    ∷ 0x04 ∷ 0x00 ∷ 0x03 ∷ 0x00 ∷ 0x02 ∷ 0x00
+    ∷ 0x05 ∷ 0x00 ∷ 0x04 ∷ 0x00 ∷ 0x00 ∷ 0x00
+    ∷ 0x05 ∷ 0x00 ∷ 0x03 ∷ 0x00 ∷ []
+
+-- a program is written as these bytes, and they are read as the program
+pub record ProgramBytes (p : Program) (bytes : List ℕ) : Type 0 where
+  pub writes : programFile p ≡ bytes
+  pub reads : readProgram bytes ≡ result p
+
 -- a file that reads as program p, compiles to circuit c and is listed as text; s has the sizes of its nodes
 pub record CompiledCase (file : List ℕ) (p : Program) (s : List ℕ) (c : Circuit) (text : String) : Type 0 where
-  pub reads : readProgram file ≡ result p
+  pub bytes : ProgramBytes p file
   -- for every grant from w to 1,024, every size list with an entry for each node and every area with room for the file
   pub compiles : (grant : ℕ) (sizes area : List ℕ) → c .work ≤ grant → grant ≤ 1024 → length (p .nodes) ≤ length sizes → length (circuitFile c) ≤ length area
       → compileOf file grant sizes area ≡ record { answer = result (headOf c); sizes = s ++ drop (length (p .nodes)) sizes; area = circuitFile c ++ drop (length (circuitFile c)) area }
@@ -121,7 +148,9 @@ pub record Examples : Type 0 where
   -- the whole case
   pub whole : CompiledCase wholeFile (record { inputs = 2; nodes = Input 0 ∷ Input 1 ∷ And 0 1 ∷ []; outputs = 2 ∷ [] }) (1 ∷ 1 ∷ 3 ∷ []) wholeCircuit
       "lines 2 1 2 gates 5\nC 0 3\nC 1 4\nT 3 4 2\nC 1 4\nC 0 3\n"
-  -- its circuit file has 68 bytes, and these are they
+  -- a second program file byte for byte
+  pub kinds-bytes : ProgramBytes kindsProgram kindsFile
+  -- the circuit file of the whole case has 68 bytes, and these are they
   pub whole-length : length (circuitFile wholeCircuit) ≡ 68
   pub whole-bytes : FileBytes wholeCircuit wholeCircuitFile
   -- a second file byte for byte, with a NOT and w over 255

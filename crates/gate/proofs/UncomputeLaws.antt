@@ -11,7 +11,7 @@ use borrow.Author.Tests.{eqb-true}
 use Rattle.gate.specs.declared.gates.Gate.{Gate}
 use Rattle.gate.specs.Gates.{target, All}
 use Rattle.gate.specs.Running.{without, uncompute}
-use Rattle.wire.proofs.CheckLaws.{by-test}
+use Rattle.refusal.proofs.CheckLaws.{by-test}
 
 -- a case on whether the first gate is left out
 pub without-at : (out : ℕ → Bool) (g : Gate) (gs : List Gate) (P : List Gate → Type 0)

@@ -5,7 +5,7 @@ use mathlib.Core.Logic.{_≢_}
 use mathlib.Core.Bool.{Bool, true, not, _&&_}
 use lib.Dec.{eqb, ltb}
 use borrow.Author.Tests.{ltb-true, lt-ltb, ne-eqb, eqb-false, not-true}
-use Rattle.wire.proofs.CheckLaws.{both-first, both-second}
+use Rattle.refusal.proofs.CheckLaws.{both-first, both-second}
 use Rattle.gate.specs.declared.gates.Gate.{Gate}
 use Rattle.gate.specs.declared.gates.Gate.the-variants.{Not, Cnot, Toffoli}
 use Rattle.gate.specs.Gates.{target, Controls, wellFormed, WellFormed}

@@ -1,3 +1,3 @@
-// Gates: what they are, their eight bytes in a circuit file, and what they do to the lines.
+// Gates: what they are, and what they do to the lines.
 pub mod gates;
 pub mod steps;

@@ -10,8 +10,8 @@ fn list_file(path: &[u8]) {
     let mut input = [0u8; 32768];
     let n = io::read_full(fd, &mut input);
     libc::close(fd);
-    let mut out = [0u8; text::LISTING_LENGTH];
-    let length = text::list(&input[..n], 1024, &mut out);
+    let mut out = [0u8; list::LISTING_LENGTH];
+    let length = list::list(&input[..n], 1024, &mut out);
     io::write_all(1, &out[..length]);
 }
 

@@ -7,37 +7,40 @@ use mathlib.Core.List.{List}
 use lib.ListN.{length, getD}
 use lib.Dec.{leb}
 use borrow.Author.Tests.{ltb-true, leb-true}
-use Rattle.wire.specs.Answers.{Answer, result, refuse, check, mapAnswer, numberOf, placeOf}
-use Rattle.wire.specs.Checks.{allBelow, lowest}
-use Rattle.wire.specs.Contents.{tableFits, entriesFit, bodyOf}
-use Rattle.wire.specs.Arity.{inputsOf, outputsOf, arityFits}
-use Rattle.wire.specs.declared.refusals.Refusal.{Refusal}
-use Rattle.wire.specs.declared.refusals.Refusal.the-variants as cause
-use Rattle.wire.proofs.AnswerLaws.{checked, checked-next, came, came-refused, Never, never-result, never-check}
-use Rattle.wire.proofs.ContentsLaws.{laid}
-use Rattle.wire.proofs.CheckLaws.{both-first, both-second, all-below}
+use Rattle.wire.specs.Limits.{mostInputs, mostOutputs}
+use Rattle.refusal.specs.Answers.{Answer, result, refuse, check, mapAnswer, numberOf, placeOf}
+use Rattle.refusal.specs.Checks.{allBelow, lowest}
+use Rattle.contents.specs.Contents.{tableFits, entriesFit, bodyOf}
+use Rattle.contents.specs.Arity.{inputsOf, outputsOf, arityFits}
+use Rattle.refusal.specs.declared.causes.Refusal.{Refusal}
+use Rattle.refusal.specs.declared.causes.Refusal.the-variants as cause
+use Rattle.refusal.proofs.AnswerLaws.{checked, checked-next, came, came-refused, Never, never-result, never-check}
+use Rattle.contents.proofs.ContentsLaws.{laid}
+use Rattle.refusal.proofs.CheckLaws.{both-first, both-second, all-below}
 use Rattle.wire.proofs.ListLaws.{tabulate-length, tabulate-at}
-use Rattle.program.specs.declared.node.Node.the-variants.{Zero}
+use Rattle.node.specs.declared.nodes.Node.the-variants.{Zero}
 use Rattle.program.specs.declared.reader.Head.{Head}
 use Rattle.program.specs.declared.reader.ProgramRead.{ProgramRead}
 use Rattle.program.specs.declared.reader.ProgramRead.the-variants.{Good, Refused}
-use Rattle.program.specs.Nodes.{nodeAt, nodesIn, nodeFits}
+use Rattle.node.specs.Nodes.{nodeAt, nodesIn, nodeFits, TableOk}
 use Rattle.program.specs.Programs.{Program, headOf}
-use Rattle.program.specs.Reading.{tags, nodesOf, lengthsFit, outputAt, outputFits, programOf, readBodies, readProgram, programRead}
-use Rattle.program.specs.Trees.{trees}
-use Rattle.program.specs.Steps.{TableOk}
-use Rattle.program.specs.Exprs.{ZERO, InputsBelow}
-use Rattle.program.proofs.NodeLaws.{node-ok}
+use Rattle.program.specs.Format.{tags}
+use Rattle.program.specs.Reading.{nodesOf, lengthsFit, outputAt, outputFits, programOf, readBodies, readProgram, programRead}
+use Rattle.node.specs.Trees.{trees}
+use Rattle.node.specs.Exprs.{ZERO, InputsBelow}
+use Rattle.node.proofs.NodeLaws.{node-ok}
 use Rattle.program.proofs.ReadingLaws.{Sized, sized, nodes-counted}
-use Rattle.program.proofs.TreeLaws.{trees-below, nodes-count, node-in}
+use Rattle.node.proofs.TreeLaws.{trees-below, nodes-count, node-in}
 
 -- an accepted file: every test held
 pub record Accepted (f : List ℕ) : Type 0 where
   pub is : readProgram f ≡ result (programOf f)
+  pub table : tableFits 3 f ≡ true
+  pub entries : entriesFit tags f ≡ true
   pub sized : Sized f
-  pub inputs-most : inputsOf f ≤ 64
+  pub inputs-most : inputsOf f ≤ mostInputs
   pub outputs-some : 1 ≤ outputsOf f
-  pub outputs-most : outputsOf f ≤ 64
+  pub outputs-most : outputsOf f ≤ mostOutputs
   pub nodes-fit : (i : ℕ) → i < nodesOf f → nodeFits (inputsOf f) (bodyOf f 1) i ≡ true
   pub outputs-fit : (k : ℕ) → k < outputsOf f → outputAt (bodyOf f 2) k < nodesOf f
 
@@ -76,15 +79,19 @@ accepted f p e =
     let e₄ : ranges ≡ result p = checked-next p (lengthsFit f) cause.BodyLength ranges e₃ in
     let o = ordered f p (checked-next p (arityFits (bodyOf f 0)) cause.Range (readBodies f) e₄) in
     let in-range : arityFits (bodyOf f 0) ≡ true = checked p (arityFits (bodyOf f 0)) cause.Range (readBodies f) e₄ in
-    let n : Bool = leb (inputsOf f) 64 in
+    let n : Bool = leb (inputsOf f) mostInputs in
     let m₁ : Bool = leb 1 (outputsOf f) in
-    let m₂ : Bool = leb (outputsOf f) 64 in
+    let m₂ : Bool = leb (outputsOf f) mostOutputs in
+    let t : tableFits 3 f ≡ true = checked p (tableFits 3 f) cause.Table entries e in
+    let c : entriesFit tags f ≡ true = checked p (entriesFit tags f) cause.Contents lengths e₂ in
     record {
       is = e ∙ sym (o .same);
-      sized = sized f (laid tags f (checked p (tableFits 3 f) cause.Table entries e) (checked p (entriesFit tags f) cause.Contents lengths e₂)) (checked p (lengthsFit f) cause.BodyLength ranges e₃);
-      inputs-most = leb-true (inputsOf f) 64 (both-first n (m₁ && m₂) in-range);
+      table = t;
+      entries = c;
+      sized = sized f (laid tags f t c) (checked p (lengthsFit f) cause.BodyLength ranges e₃);
+      inputs-most = leb-true (inputsOf f) mostInputs (both-first n (m₁ && m₂) in-range);
       outputs-some = leb-true 1 (outputsOf f) (both-first m₁ m₂ (both-second n (m₁ && m₂) in-range));
-      outputs-most = leb-true (outputsOf f) 64 (both-second m₁ m₂ (both-second n (m₁ && m₂) in-range));
+      outputs-most = leb-true (outputsOf f) mostOutputs (both-second m₁ m₂ (both-second n (m₁ && m₂) in-range));
       nodes-fit = o .nodes-fit;
       outputs-fit = o .outputs-fit;
     }

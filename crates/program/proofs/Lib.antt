@@ -1,6 +1,4 @@
 pub mod AcceptedLaws
-pub mod FilledLaws
-pub mod NodeLaws
+pub mod FileLaws
+pub mod OperandLaws
 pub mod ReadingLaws
-pub mod TreeLaws
-pub mod ValueLaws

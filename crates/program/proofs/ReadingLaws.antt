@@ -7,19 +7,24 @@ use mathlib.Core.List.{List}
 use lib.ListN.{length}
 use lib.Dec.{eqb, leb}
 use borrow.Author.Tests.{eqb-true, leb-true}
-use Rattle.wire.specs.Checks.{lowest}
-use Rattle.wire.specs.Contents.{entryLength, bodyOf}
-use Rattle.wire.specs.Steps.{Laid}
-use Rattle.wire.specs.Arity.{inputsOf, outputsOf}
-use Rattle.wire.proofs.CheckLaws.{both-first, both-second}
-use Rattle.wire.proofs.ContentsLaws.{body-length}
+use Rattle.wire.specs.Limits.{mostNodes}
+use Rattle.refusal.specs.Checks.{lowest}
+use Rattle.contents.specs.Contents.{entryLength, bodyOf}
+use Rattle.contents.specs.Arity.{inputsOf, outputsOf, arityFits}
+use Rattle.contents.specs.declared.reader.ContentsRead.{ContentsRead}
+use Rattle.contents.specs.declared.reader.ContentsRead.the-variants.{Good}
+use Rattle.contents.specs.Steps.{readContents, contentsRead, Laid}
+use Rattle.refusal.proofs.CheckLaws.{both-first, both-second}
+use Rattle.contents.proofs.ContentsLaws.{body-length, contents-next}
 use Rattle.wire.proofs.ListLaws.{tabulate-length}
-use Rattle.program.proofs.TreeLaws.{nodes-count}
-use Rattle.wire.specs.Answers.{Answer, result}
+use Rattle.node.proofs.TreeLaws.{nodes-count}
+use Rattle.refusal.specs.Answers.{Answer, result, check}
+use Rattle.refusal.specs.declared.causes.Refusal.the-variants as cause
 use Rattle.program.specs.declared.reader.Head.{Head}
-use Rattle.program.specs.Nodes.{nodeFits}
-use Rattle.program.specs.Programs.{headOf}
-use Rattle.program.specs.Reading.{nodesOf, lengthsFit, outputAt, outputFits, programOf}
+use Rattle.node.specs.Nodes.{nodeFits}
+use Rattle.program.specs.Programs.{Program, headOf}
+use Rattle.program.specs.Format.{tags}
+use Rattle.program.specs.Reading.{nodesOf, lengthsFit, outputAt, outputFits, programOf, readBodies, readProgram}
 
 -- a file that passes causes 1 to 3
 pub record Sized (f : List ℕ) : Type 0 where
@@ -27,7 +32,7 @@ pub record Sized (f : List ℕ) : Type 0 where
   pub four : entryLength f 0 ≡ 4
   pub sixes : entryLength f 1 ≡ 6 * nodesOf f
   pub some : 1 ≤ nodesOf f
-  pub most : nodesOf f ≤ 4096
+  pub most : nodesOf f ≤ mostNodes
   pub twos : entryLength f 2 ≡ 2 * outputsOf f
 
 module _ (f : List ℕ) where
@@ -37,7 +42,7 @@ module _ (f : List ℕ) where
       let four : Bool = eqb (entryLength f 0) 4 in
       let sixes : Bool = eqb (entryLength f 1 % 6) 0 in
       let some : Bool = leb 1 (nodesOf f) in
-      let most : Bool = leb (nodesOf f) 4096 in
+      let most : Bool = leb (nodesOf f) mostNodes in
       let twos : Bool = eqb (entryLength f 2) (2 * outputsOf f) in
       let a : (four && (sixes && (some && most))) ≡ true = both-first (four && (sixes && (some && most))) twos e in
       let b : (sixes && (some && most)) ≡ true = both-second four (sixes && (some && most)) a in
@@ -48,9 +53,18 @@ module _ (f : List ℕ) where
         four = eqb-true (entryLength f 0) 4 (both-first four (sixes && (some && most)) a);
         sixes = omega (arith, rest);
         some = leb-true 1 (nodesOf f) (both-first some most c);
-        most = leb-true (nodesOf f) 4096 (both-second some most c);
+        most = leb-true (nodesOf f) mostNodes (both-second some most c);
         twos = eqb-true (entryLength f 2) (2 * outputsOf f) (both-second (four && (sixes && (some && most))) twos e);
       }
+
+  -- the checks behind causes 1 and 2
+  abbrev pub programChecks : Answer Program
+  programChecks = check (lengthsFit f) cause.BodyLength (check (arityFits (bodyOf f 0)) cause.Range (readBodies f))
+
+  -- where these found nothing, reading goes on with them
+  pub program-checks : {r : ContentsRead} → contentsRead r ≡ readContents tags f → r ≡ Good → readProgram f ≡ programChecks
+  unfolding readProgram
+  program-checks e g = contents-next tags f e g programChecks
 
   module _ (l : Laid 3 f) where
     -- each body is as long as its entry says

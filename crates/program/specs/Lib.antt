@@ -1,6 +1,5 @@
-pub mod Exprs
-pub mod Nodes
+pub mod Format
 pub mod Programs
 pub mod Reading
-pub mod Steps
-pub mod Trees
+pub mod Tables
+pub mod Theorems

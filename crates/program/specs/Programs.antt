@@ -1,11 +1,13 @@
 -- A program: its inputs, its table of nodes and the node that each output names.
-use Prim.Native.Nat.{ℕ}
-use mathlib.Core.List.{List, map}
+use Prim.Native.Nat.{ℕ, _≤_, _<_}
+use mathlib.Core.List.{List}
 use lib.ListN.{length, getD}
-use Rattle.program.specs.declared.node.Node.{Node}
+use Rattle.wire.specs.Limits.{mostInputs, mostOutputs, mostNodes}
+use Rattle.node.specs.declared.nodes.Node.{Node}
+use Rattle.node.specs.Nodes.{TableOk}
 use Rattle.program.specs.declared.reader.Head.{Head}
-use Rattle.program.specs.Exprs.{Expr, ZERO, value}
-use Rattle.program.specs.Trees.{trees}
+use Rattle.node.specs.Exprs.{Expr, ZERO, value}
+use Rattle.node.specs.Trees.{trees}
 
 -- how many inputs there are, the nodes in order, and for each output the index of its node
 pub record Program : Type 0 where
@@ -25,6 +27,12 @@ outputTree p k = getD (trees (p .nodes)) (getD (p .outputs) k 0) ZERO
 unfoldable pub outputValue : Program → List ℕ → ℕ → ℕ
 outputValue p x k = value (outputTree p k) x
 
--- the value of every node of a table on the input bits x
-unfoldable pub nodeValues : List Node → List ℕ → List ℕ
-nodeValues ns x = map (λ e. value e x) (trees ns)
+-- a program that a file can hold: its numbers are in range, every node is in order, and every output names one of the nodes
+pub record LegalProgram (p : Program) : Type 0 where
+  pub inputs-most : p .inputs ≤ mostInputs
+  pub outputs-some : 1 ≤ length (p .outputs)
+  pub outputs-most : length (p .outputs) ≤ mostOutputs
+  pub nodes-some : 1 ≤ length (p .nodes)
+  pub nodes-most : length (p .nodes) ≤ mostNodes
+  pub ordered : TableOk (p .inputs) (p .nodes)
+  pub named : (k : ℕ) → k < length (p .outputs) → getD (p .outputs) k 0 < length (p .nodes)

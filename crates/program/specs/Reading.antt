@@ -1,23 +1,21 @@
 -- Reading a program file, check by check in the order of 01's table.
 use Prim.Native.Nat.{ℕ, _*_, _/_, _%_}
 use mathlib.Core.Bool.{Bool, _&&_}
-use mathlib.Core.List.{List, [], _∷_}
+use mathlib.Core.List.{List}
 use lib.Dec.{eqb, leb, ltb}
-use Rattle.wire.specs.Answers.{Answer, result, refuse, check, checkEach}
+use Rattle.wire.specs.Limits.{mostNodes}
+use Rattle.refusal.specs.Answers.{Answer, result, refuse, check, checkEach}
 use Rattle.wire.specs.Bytes.{at16}
-use Rattle.wire.specs.Contents.{tableFits, entriesFit, entryLength, bodyOf}
-use Rattle.wire.specs.Arity.{inputsOf, outputsOf, arityFits}
+use Rattle.contents.specs.Contents.{tableFits, entriesFit, entryLength, bodyOf}
+use Rattle.contents.specs.Arity.{inputsOf, outputsOf, arityFits}
 use Rattle.wire.specs.Lists.{tabulate}
-use Rattle.wire.specs.declared.refusals.Refusal.the-variants as cause
+use Rattle.refusal.specs.declared.causes.Refusal.the-variants as cause
 use Rattle.program.specs.declared.reader.Head.{Head}
 use Rattle.program.specs.declared.reader.ProgramRead.{ProgramRead}
 use Rattle.program.specs.declared.reader.ProgramRead.the-variants.{Good, Refused}
-use Rattle.program.specs.Nodes.{nodesIn, nodeFits}
+use Rattle.node.specs.Nodes.{nodesIn, nodeFits}
 use Rattle.program.specs.Programs.{Program}
-
--- the tags of the three bodies: inputs and outputs, nodes, outputs' nodes
-abbrev pub tags : List ℕ
-tags = 1 ∷ 2 ∷ 3 ∷ []
+use Rattle.program.specs.Format.{tags}
 
 -- how many nodes the second body has room for
 abbrev pub nodesOf : List ℕ → ℕ
@@ -27,7 +25,7 @@ nodesOf f = entryLength f 1 / 6
 unfoldable pub lengthsFit : List ℕ → Bool
 lengthsFit f =
     eqb (entryLength f 0) 4
-    && (eqb (entryLength f 1 % 6) 0 && (leb 1 (nodesOf f) && leb (nodesOf f) 4096))
+    && (eqb (entryLength f 1 % 6) 0 && (leb 1 (nodesOf f) && leb (nodesOf f) mostNodes))
     && eqb (entryLength f 2) (2 * outputsOf f)
 
 -- the index of the node that output k names

@@ -1,3 +1,2 @@
-// Program files: the nodes, the reader of whole files, and what a node means.
-pub mod node;
+// Program files: the reader of whole files, and the trees of their nodes and outputs.
 pub mod reader;

@@ -1,23 +1,24 @@
 // The reader of program files: causes 1 to 6, in the order of their numbers.
-use crate::node::NodeRead;
-use crate::node::read_node;
-use wire::arity::arity_fits;
-use wire::contents::body;
-use wire::contents::entries_fit;
-use wire::contents::entry_length;
-use wire::contents::table_fits;
+use contents::arity::arity_fits;
+use contents::reader::ContentsRead;
+use contents::reader::body;
+use contents::reader::entry_length;
+use contents::reader::read_contents;
+use node::nodes::NodeRead;
+use node::nodes::read_node;
+use refusal::causes::Refusal;
+use wire::limits::MOST_NODES;
 use wire::numbers::get16;
-use wire::refusals::Refusal;
 ghost use mathlib.Core.Path.{_≡_};
 ghost use mathlib.Core.Bool.{true};
 ghost use Prim.Native.Nat.{_+_, _*_, _/_, _≤_};
 ghost use lib.ListN.{length};
-ghost use Rattle.wire.specs.Answers.{mapAnswer};
-ghost use Rattle.wire.specs.Checks.{lowest};
-ghost use Rattle.wire.specs.Contents.{entryLength, bodyOf};
-ghost use Rattle.wire.specs.Steps.{Laid};
-ghost use Rattle.wire.specs.Arity.{arityFits};
-ghost use Rattle.program.specs.Nodes.{nodeFits};
+ghost use Rattle.refusal.specs.Answers.{mapAnswer};
+ghost use Rattle.refusal.specs.Checks.{lowest};
+ghost use Rattle.contents.specs.Contents.{entryLength, bodyOf};
+ghost use Rattle.contents.specs.Steps.{Laid};
+ghost use Rattle.contents.specs.Arity.{arityFits};
+ghost use Rattle.node.specs.Nodes.{nodeFits};
 ghost use Rattle.program.specs.Programs.{headOf};
 ghost use Rattle.program.specs.Reading.{outputAt, outputFits, lengthsFit, readBodies, readProgram, programRead};
 
@@ -80,14 +81,14 @@ fn lengths_fit(file: &[u8]) -> bool
     if entry_length(file, 0) != 4 {
         return false;
     }
-    let nodes = entry_length(file, 1);
+    let nodes = entry_length(file, 1) as usize;
     if nodes % 6 != 0 {
         return false;
     }
     if nodes / 6 < 1 {
         return false;
     }
-    if 4096 < nodes / 6 {
+    if MOST_NODES < nodes / 6 {
         return false;
     }
     let outputs = get16(body(file, 0), 2);
@@ -146,11 +147,9 @@ fn read_bodies(file: &[u8]) -> ProgramRead
 pub fn read_program(file: &[u8]) -> ProgramRead
     ensures { λ r. ⌜ programRead r ≡ mapAnswer headOf (readProgram (now (file .entry))) ⌝ }
 {
-    if !table_fits(file, 3) {
-        return ProgramRead::Refused(Refusal::Table);
-    }
-    if !entries_fit(file, &[1, 2, 3]) {
-        return ProgramRead::Refused(Refusal::Contents);
+    let contents = read_contents(file, &[1, 2, 3]);
+    if let ContentsRead::Refused(why) = contents {
+        return ProgramRead::Refused(why);
     }
     if !lengths_fit(file) {
         return ProgramRead::Refused(Refusal::BodyLength);

@@ -3,21 +3,21 @@ use Prim.Native.Nat.{ℕ, _-_, _/_, _<_, _≤_}
 use mathlib.Core.Path.{_≡_, refl, sym, ap, _∙_}
 use mathlib.Core.List.{List, [], _∷_, reverse, reverse-append}
 use lib.ListN.{length, take}
-use Rattle.wire.specs.Answers.{Answer, result, refused, mapAnswer}
+use Rattle.refusal.specs.Answers.{Answer, result, refused, mapAnswer}
 use Rattle.wire.specs.Bits.{Bits}
-use Rattle.wire.specs.Contents.{bodyOf}
-use Rattle.wire.proofs.AnswerLaws.{came}
+use Rattle.contents.specs.Contents.{bodyOf}
+use Rattle.refusal.proofs.AnswerLaws.{came}
 use Rattle.wire.proofs.BitLaws.{bits-pass}
 use Rattle.gate.specs.declared.gates.Gate.{Gate}
 use Rattle.gate.specs.Gates.{WellFormed, Fits}
-use Rattle.gate.specs.GateBytes.{gateAt}
+use Rattle.gate_bytes.specs.GateBytes.{gateAt}
 use Rattle.gate.specs.Running.{step, run, runBack}
 use Rattle.gate.proofs.AllLaws.{all-reverse}
 use Rattle.gate.proofs.StepLaws.{length-step, step-bits, length-run, run-bits, backwards-undoes, forwards-undoes}
 use Rattle.gate.proofs.WellFormedLaws.{target-below}
 use Rattle.circuit.specs.Circuits.{Circuit, lineCount, gatesIn}
 use Rattle.circuit.specs.Reading.{readWithLines}
-use Rattle.circuit.proofs.AcceptedLaws.{accepted, formed, WithLines, with-lines, has-lines, lines-gates, lines-formed}
+use Rattle.circuit.proofs.AcceptedLaws.{accepted, formed, WithLines, with-lines, has-lines, lines-formed}
 use Rattle.circuit.proofs.GateBodyLaws.{gate-formed, gates-last}
 use Rattle.run.specs.RunCircuit.{runForwards, runBackwards, linesAfter, done}
 use Rattle.run.specs.Theorems.{BackwardsUndoesFile, ForwardsUndoesFile}
@@ -59,25 +59,23 @@ module _ (body : List ℕ) where
   pub back-next : (i : ℕ) → 0 < i → i ≤ length body / 8 → reverse (take i (gatesIn body)) ≡ gateAt body (i - 1) ∷ reverse (take (i - 1) (gatesIn body))
   back-next i h l = ap reverse (gates-last body i h l) ∙ reverse-append (take (i - 1) (gatesIn body)) (gateAt body (i - 1) ∷ [])
 
--- running a file, whatever the order in which `order` runs its gates
-module _ (f lines : List ℕ) (order : List Gate → List ℕ → List ℕ) where
+-- running the circuit that a reader gave, whatever the reader and the order in which `order` runs the gates
+module _ (x : Answer Circuit) (lines : List ℕ) (order : List Gate → List ℕ → List ℕ) where
   abbrev outcome : Answer (List ℕ)
-  outcome = mapAnswer (λ (c : Circuit). order (c .gates) lines) (readWithLines f lines)
+  outcome = mapAnswer (λ (c : Circuit). order (c .gates) lines) x
 
   -- the answer a and the lines at exit are those of the service's definition
-  pub record Outcome (a : Answer ℕ) (after : List ℕ) : Type 0 where
+  pub record RunOutcome (a : Answer ℕ) (after : List ℕ) : Type 0 where
     pub answer : a ≡ done outcome
     pub lines-are : after ≡ linesAfter outcome lines
 
   -- a refusal leaves the lines as they were
-  pub run-refused : (n p : ℕ) → readWithLines f lines ≡ refused n p → Outcome (refused n p) lines
+  pub run-refused : (n p : ℕ) → x ≡ refused n p → RunOutcome (refused n p) lines
   run-refused n p e = record { answer = rw e refl; lines-are = rw e refl }
 
   -- a result is the run
-  pub run-done : (c : Circuit) → readWithLines f lines ≡ result c → Outcome (result 0) (order (gatesIn (bodyOf f 1)) lines)
-  run-done c e =
-      let gs = sym (lines-gates f lines c e) in
-      record { answer = rw e refl; lines-are = rw e (ap (λ (hs : List Gate). order hs lines) gs) }
+  pub run-done : (c : Circuit) (gs : List Gate) → x ≡ result c → c .gates ≡ gs → RunOutcome (result 0) (order gs lines)
+  run-done c gs e same = record { answer = rw e refl; lines-are = rw e (ap (λ (hs : List Gate). order hs lines) (sym same)) }
 
 -- the gates of a file that was read can be run on its lines
 pub runnable : (f lines : List ℕ) (c : Circuit) → readWithLines f lines ≡ result c → Fits (gatesIn (bodyOf f 1)) lines × Bits lines

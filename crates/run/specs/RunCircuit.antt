@@ -1,7 +1,7 @@
 -- Running a circuit file on lines.
 use Prim.Native.Nat.{ℕ}
 use mathlib.Core.List.{List}
-use Rattle.wire.specs.Answers.{Answer, result, refused, refuse, mapAnswer}
+use Rattle.refusal.specs.Answers.{Answer, result, refused, refuse, mapAnswer}
 use Rattle.gate.specs.Running.{run, runBack}
 use Rattle.circuit.specs.Reading.{readWithLines}
 use Rattle.run.specs.declared.Ran.{Ran}

@@ -2,7 +2,7 @@
 use Prim.Native.Nat.{ℕ}
 use mathlib.Core.Path.{_≡_}
 use mathlib.Core.List.{List}
-use Rattle.wire.specs.Answers.{result}
+use Rattle.refusal.specs.Answers.{result}
 use Rattle.run.specs.RunCircuit.{runForwards, runBackwards}
 
 -- running an accepted file backwards undoes running it forwards

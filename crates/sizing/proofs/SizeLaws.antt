@@ -1,33 +1,35 @@
 -- Laws of the sizes that the size list shows. Assumes nothing.
 use Prim.Native.Nat.{ℕ, _+_, _/_, _<_, _≤_}
 use native.Mathlib.Omega.{arith}
-use mathlib.Core.Path.{_≡_, sym, ap, _∙_}
+use mathlib.Core.Path.{_≡_, refl, sym, ap, _∙_}
 use mathlib.Core.Bool.{true, false}
-use mathlib.Core.List.{List, _++_, map}
+use mathlib.Core.List.{List, [], _∷_, _++_, map, flatMap}
 use lib.ListN.{length, getD, length-map, List·getD-append}
 use lib.Dec.{leb}
 use borrow.Author.Tests.{leb-true, leb-false, le-leb, lt-leb}
-use Rattle.wire.specs.Checks.{lowest}
-use Rattle.wire.proofs.CheckLaws.{by-test, lowest-same}
-use Rattle.wire.proofs.ListLaws.{map-at}
-use Rattle.program.specs.declared.node.Node.{Node}
-use Rattle.program.specs.declared.node.Node.the-variants.{Not, Xor, And}
-use Rattle.program.specs.Exprs.{Expr, ZERO, size}
-use Rattle.program.specs.Nodes.{nodesIn}
+use Rattle.wire.specs.Limits.{mostSize}
+use Rattle.refusal.specs.Checks.{lowest}
+use Rattle.refusal.proofs.CheckLaws.{by-test, lowest-same}
+use Rattle.wire.proofs.ListLaws.{map-at, flat-single}
+use Rattle.node.specs.declared.nodes.Node.{Node}
+use Rattle.node.specs.declared.nodes.Node.the-variants.{Zero, One, Input, Not, Xor, And}
+use Rattle.node.specs.Exprs.{Expr, ZERO, size}
+use Rattle.node.specs.Nodes.{nodesIn}
 use Rattle.program.specs.Reading.{outputAt}
-use Rattle.program.specs.Trees.{treeOf, trees}
-use Rattle.program.proofs.TreeLaws.{nodes-count}
-use Rattle.program.proofs.FilledLaws.{entries-length, entry-at}
+use Rattle.node.specs.Steps.{NextOf}
+use Rattle.node.specs.Trees.{treeOf, trees}
+use Rattle.node.proofs.TreeLaws.{nodes-count}
+use Rattle.node.proofs.FilledLaws.{entries-length, entry-at}
 use Rattle.sizing.specs.Sizing.{shown, nodeSizes}
 use Rattle.sizing.specs.Steps.{entryFits}
 
 -- a size as shown is at most 16,384 just where the size is
-pub size-within : (s : ℕ) → leb (shown s) 16384 ≡ leb s 16384
+pub size-within : (s : ℕ) → leb (shown s) mostSize ≡ leb s mostSize
 unfolding shown
 size-within s =
-    by-test (leb s 16384)
-    (λ t. le-leb (shown s) 16384 (omega (arith, leb-true s 16384 t)) ∙ sym t)
-    (λ t. lt-leb (shown s) 16384 (omega (arith, leb-false s 16384 t)) ∙ sym t)
+    by-test (leb s mostSize)
+    (λ t. le-leb (shown s) mostSize (omega (arith, leb-true s mostSize t)) ∙ sym t)
+    (λ t. lt-leb (shown s) mostSize (omega (arith, leb-false s mostSize t)) ∙ sym t)
 
 -- there is an entry for each node; it shows the size of the node's tree
 pub sizes-length : (ns : List Node) → length (nodeSizes ns) ≡ length ns
@@ -38,40 +40,57 @@ sizes-at : (ns : List Node) (i : ℕ) → i < length ns → getD (nodeSizes ns) 
 unfolding nodeSizes
 sizes-at ns i h = entry-at (λ e. shown (size e)) ns i h
 
--- where a list shows the sizes of trees, a node's entry is made of its operands' entries
-module _ {ss : List ℕ} (ts : List Expr) (e : ss ≡ map (λ e. shown (size e)) ts) where
+-- what a node adds to a list of sizes, by its kind: where the list shows the sizes of trees, its entry is made of its operands' entries
+abbrev pub NextSize : Node → List ℕ → ℕ → Type 0
+NextSize node list r = NextOf (λ e. shown (size e) ∷ []) node list (r ∷ [])
+
+pub next-zero : (ss : List ℕ) → NextSize Zero ss 1
+unfolding treeOf size shown
+next-zero ss ts e = refl
+
+pub next-one : (ss : List ℕ) → NextSize One ss 1
+unfolding treeOf size shown
+next-one ss ts e = refl
+
+pub next-input : (ss : List ℕ) (j : ℕ) → NextSize (Input j) ss 1
+unfolding treeOf size shown
+next-input ss j ts e = refl
+
+module _ {ss : List ℕ} (ts : List Expr) (e : ss ≡ flatMap (λ e. shown (size e) ∷ []) ts) where
   entry : (a : ℕ) → a < length ss → getD ss a 0 ≡ shown (size (getD ts a ZERO))
   entry a h =
-      let n : length ss ≡ length ts = ap (λ (l : List ℕ). length l) e ∙ length-map ts (λ e. shown (size e)) in
-      ap (λ (l : List ℕ). getD l a 0) e ∙ map-at (λ (t : Expr). shown (size t)) ts a ZERO 0 (omega (arith, n))
+      let is : ss ≡ map (λ t. shown (size t)) ts = e ∙ flat-single (λ t. shown (size t)) ts in
+      let n : length ss ≡ length ts = ap (λ (l : List ℕ). length l) is ∙ length-map ts (λ t. shown (size t)) in
+      ap (λ (l : List ℕ). getD l a 0) is ∙ map-at (λ (t : Expr). shown (size t)) ts a ZERO 0 (omega (arith, n))
 
-  pub size-not : (a : ℕ) {r : ℕ} → a < length ss → r ≡ shown (1 + getD ss a 0 + 0) → r ≡ shown (size (treeOf ts (Not a)))
-  unfolding treeOf size shown
-  size-not a h p = omega (arith, p, entry a h)
+pub next-not : {ss : List ℕ} (a : ℕ) {r : ℕ} → a < length ss → r ≡ shown (1 + getD ss a 0 + 0) → NextSize (Not a) ss r
+unfolding treeOf size shown
+next-not a h p ts e = ap (λ (s : ℕ). s ∷ []) (omega (arith, p, entry ts e a h))
 
-  pub size-xor : (a b : ℕ) {r : ℕ} → (a < length ss) × (b < length ss) → r ≡ shown (1 + getD ss a 0 + getD ss b 0) → r ≡ shown (size (treeOf ts (Xor a b)))
+module _ {ss : List ℕ} (a b : ℕ) {r : ℕ} (h : (a < length ss) × (b < length ss)) (p : r ≡ shown (1 + getD ss a 0 + getD ss b 0)) where
+  pub next-xor : NextSize (Xor a b) ss r
   unfolding treeOf size shown
-  size-xor a b h p = omega (arith, p, entry a (h .0), entry b (h .1))
+  next-xor ts e = ap (λ (s : ℕ). s ∷ []) (omega (arith, p, entry ts e a (h .0), entry ts e b (h .1)))
 
-  pub size-and : (a b : ℕ) {r : ℕ} → (a < length ss) × (b < length ss) → r ≡ shown (1 + getD ss a 0 + getD ss b 0) → r ≡ shown (size (treeOf ts (And a b)))
+  pub next-and : NextSize (And a b) ss r
   unfolding treeOf size shown
-  size-and a b h p = omega (arith, p, entry a (h .0), entry b (h .1))
+  next-and ts e = ap (λ (s : ℕ). s ∷ []) (omega (arith, p, entry ts e a (h .0), entry ts e b (h .1)))
 
 -- the test of the entry of output k, which names node i
 module _ (sizes outputs : List ℕ) (k : ℕ) {i : ℕ} (e : i ≡ outputAt outputs k) where
-  pub entry-fits : getD sizes i 0 ≤ 16384 → entryFits sizes outputs k ≡ true
-  entry-fits h = le-leb (getD sizes (outputAt outputs k) 0) 16384 (rw e at h)
+  pub entry-fits : getD sizes i 0 ≤ mostSize → entryFits sizes outputs k ≡ true
+  entry-fits h = le-leb (getD sizes (outputAt outputs k) 0) mostSize (rw e at h)
 
-  pub entry-large : 16384 < getD sizes i 0 → entryFits sizes outputs k ≡ false
-  entry-large h = lt-leb (getD sizes (outputAt outputs k) 0) 16384 (rw e at h)
+  pub entry-large : mostSize < getD sizes i 0 → entryFits sizes outputs k ≡ false
+  entry-large h = lt-leb (getD sizes (outputAt outputs k) 0) mostSize (rw e at h)
 
 module _ (body : List ℕ) where
   -- the lowest output whose entry is too large is the lowest whose tree is
   pub sizes-lowest : (outputs rest : List ℕ) (k : ℕ) → ((j : ℕ) → j < k → outputAt outputs j < length body / 6)
-      → lowest (entryFits (nodeSizes (nodesIn body) ++ rest) outputs) k ≡ lowest (λ j. leb (size (getD (trees (nodesIn body)) (outputAt outputs j) ZERO)) 16384) k
+      → lowest (entryFits (nodeSizes (nodesIn body) ++ rest) outputs) k ≡ lowest (λ j. leb (size (getD (trees (nodesIn body)) (outputAt outputs j) ZERO)) mostSize) k
   sizes-lowest outputs rest k named =
       let ns : List Node = nodesIn body in
       let entry : (i : ℕ) → i < length body / 6 → getD (nodeSizes ns ++ rest) i 0 ≡ shown (size (getD (trees (nodesIn body)) i ZERO)) =
       λ i h. List·getD-append (nodeSizes ns) rest 0 i (omega (arith, sizes-length ns, nodes-count body)) ∙ sizes-at ns i (omega (arith, nodes-count body)) in
-      lowest-same (entryFits (nodeSizes ns ++ rest) outputs) (λ (j : ℕ). leb (size (getD (trees (nodesIn body)) (outputAt outputs j) ZERO)) 16384) k
-      (λ j h. ap (λ (s : ℕ). leb s 16384) (entry (outputAt outputs j) (named j h)) ∙ size-within (size (getD (trees (nodesIn body)) (outputAt outputs j) ZERO)))
+      lowest-same (entryFits (nodeSizes ns ++ rest) outputs) (λ (j : ℕ). leb (size (getD (trees (nodesIn body)) (outputAt outputs j) ZERO)) mostSize) k
+      (λ j h. ap (λ (s : ℕ). leb s mostSize) (entry (outputAt outputs j) (named j h)) ∙ size-within (size (getD (trees (nodesIn body)) (outputAt outputs j) ZERO)))

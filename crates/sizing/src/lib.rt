@@ -1,37 +1,36 @@
 // The unfolded sizes of the nodes of a table, front to back, each from those before it.
-use program::node::Node;
-use program::node::node_at;
+use node::nodes::Node;
+use node::nodes::node_at;
 use program::reader::output_at;
+use wire::limits::MOST_SIZE;
+use wire::limits::TOO_LARGE;
 ghost use mathlib.Core.Path.{_≡_};
-ghost use mathlib.Core.List.{_++_};
+ghost use mathlib.Core.List.{[], _∷_, _++_};
 ghost use Prim.Native.Nat.{ℕ, _+_, _/_, _<_};
 ghost use lib.ListN.{length, drop};
-ghost use Rattle.wire.specs.Checks.{lowest};
-ghost use Rattle.program.specs.Exprs.{size};
-ghost use Rattle.program.specs.Nodes.{nodesIn};
+ghost use Rattle.refusal.specs.Checks.{lowest};
+ghost use Rattle.node.specs.Exprs.{size};
+ghost use Rattle.node.specs.Nodes.{nodesIn, NodeOk};
 ghost use Rattle.program.specs.Reading.{outputAt};
-ghost use Rattle.program.specs.Steps.{NodeOk, Fillable, NextOf};
+ghost use Rattle.node.specs.Steps.{Fillable, NextOf};
 ghost use Rattle.sizing.specs.Sizing.{shown, nodeSizes};
 ghost use Rattle.sizing.specs.Steps.{entryFits};
-
-// The largest size that is told apart; the list shows it for every larger one too.
-const TOO_LARGE: u64 = 16385;
 
 // A node's entry in the size list, where its operands have these entries.
 fn joined(a: u16, b: u16) -> u16
     ensures { λ r. ⌜ r ≡ shown (1 + a + b) ⌝ }
 {
     let sum = 1 + a as u64 + b as u64;
-    if sum < TOO_LARGE {
+    if sum < TOO_LARGE as u64 {
         return sum as u16;
     }
-    TOO_LARGE as u16
+    TOO_LARGE
 }
 
 // A node's entry, where sizes has those of the nodes before it.
 fn node_size(node: Node, sizes: &[u16]) -> u16
     requires { ⌜ ((n : ℕ) × NodeOk n (length (now sizes)) node) ⌝ }
-    ensures { λ r. ⌜ NextOf (λ e. shown (size e)) node (now (sizes .entry)) r ⌝ }
+    ensures { λ r. ⌜ NextOf (λ e. shown (size e) ∷ []) node (now (sizes .entry)) (r ∷ []) ⌝ }
 {
     match node {
         Node::Zero => 1,
@@ -63,7 +62,7 @@ pub fn first_too_large(outputs: &[u8], sizes: &[u16]) -> usize
 {
     let mut k = 0;
     while k < outputs.len() / 2 {
-        if 16384 < sizes[output_at(outputs, k)] {
+        if MOST_SIZE < sizes[output_at(outputs, k)] {
             return k;
         }
         k += 1;

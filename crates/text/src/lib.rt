@@ -1,59 +1,51 @@
-// The listing of a program file's circuit as text.
-mod lines;
+// The lines of a listing, put into a lent buffer. Each function answers where its text ends.
+use circuit::reader::CircuitHead;
+use gate::gates::Gate;
+use gate_bytes::reader::gate_at;
+use line::put_line;
+use line::put_numbers;
+use line::put_word;
+ghost use Rattle.circuit.specs.Circuits.{gatesIn};
+ghost use Rattle.text.specs.Listings.{gateLine, gateLines, firstLine};
+ghost use Rattle.line.specs.Putting.{Put, TextFits};
 
-use crate::lines::put_gate_lines;
-use crate::lines::put_head;
-use crate::lines::put_refusal;
-use circuit::layout::FIRST_GATE;
-use compile::Compiled;
-use compile::compile;
-ghost use mathlib.Core.Path.{_≡_};
-ghost use mathlib.Core.List.{List, _++_};
-ghost use Prim.Native.Nat.{ℕ, _≤_};
-ghost use lib.ListN.{length, drop};
-ghost use Rattle.circuit.specs.Format.{fileLength};
-ghost use Rattle.text.specs.Lines.{listingOf};
-ghost use Rattle.text.specs.Putting.{Put, bodyIn, printed, Listable};
-
-// How many bytes a listing takes at most: 96 for the first line and 20 for each of 8,000 gates.
-pub const LISTING_LENGTH: usize = 160096;
-
-// How many entries the size list has, one for each node that a program file can hold.
-const SIZE_ENTRIES: usize = 4096;
-
-// How many bytes the circuit area has, enough for a file of 8,000 gates.
-const AREA_LENGTH: usize = 64028;
-
-// The gate body of a circuit file that stands in an area.
-fn body_in(area: &[u8], gates: usize) -> &[u8]
-    requires { ⌜ fileLength gates ≤ length (now area) ⌝ }
-    ensures { λ r. ⌜ now r ≡ bodyIn (now (area .entry)) gates ⌝ }
+// Puts the line of a gate: its letter, its controls and its target.
+fn put_gate_line(out: &mut [u8], at: usize, gate: Gate) -> usize
+    requires { ⌜ TextFits (gateLine gate) at (now out) ⌝ }
+    ensures { λ r. ⌜ Put (gateLine gate) at r (now (out .entry)) (now (out .exit)) ⌝ }
 {
-    let end = FIRST_GATE + 8 * gates;
-    &area[FIRST_GATE..end]
-}
-
-// Puts the listing of the answer; on a result the gates stand in the area.
-fn put_listing(out: &mut [u8], answer: Compiled, area: &[u8]) -> usize
-    requires { ⌜ Listable answer (now area) (now out) ⌝ }
-    ensures { λ r. ⌜ Put (printed answer (now (area .entry))) 0 r (now (out .entry)) (now (out .exit)) ⌝ }
-{
-    match answer {
-        Compiled::Written(head) => {
-            let after_head = put_head(out, 0, head);
-            put_gate_lines(out, after_head, body_in(area, head.gates))
-        }
-        Compiled::Refused(why) => put_refusal(out, 0, why),
+    match gate {
+        Gate::Not { target } => put_line(out, at, b"N", &[target as u64]),
+        Gate::Cnot { control, target } => put_line(out, at, b"C", &[control as u64, target as u64]),
+        Gate::Toffoli {
+            first,
+            second,
+            target,
+        } => put_line(out, at, b"T", &[first as u64, second as u64, target as u64]),
     }
 }
 
-// Compiles a program file with this grant and puts the listing of the answer at the start of the
-// buffer, whose other bytes stay as they were; how many bytes the listing takes.
-pub fn list(input: &[u8], grant: u64, out: &mut [u8; LISTING_LENGTH]) -> usize
-    ensures { λ r. let text : List ℕ = listingOf (now (input .entry)) grant in ⌜ (r ≡ length text) × (now (out .exit) ≡ text ++ drop r (now (out .entry))) ⌝ }
+// Puts a line for each gate of a gate body.
+pub fn put_gate_lines(out: &mut [u8], at: usize, gates: &[u8]) -> usize
+    requires { ⌜ TextFits (gateLines (gatesIn (now gates))) at (now out) ⌝ }
+    ensures { λ r. ⌜ Put (gateLines (gatesIn (now (gates .entry)))) at r (now (out .entry)) (now (out .exit)) ⌝ }
 {
-    let mut sizes = [0u16; SIZE_ENTRIES];
-    let mut area = [0u8; AREA_LENGTH];
-    let answer = compile(input, grant, &mut sizes, &mut area);
-    put_listing(out, answer, &area)
+    let mut end = at;
+    let mut k = 0;
+    while k < gates.len() / 8 {
+        end = put_gate_line(out, end, gate_at(gates, k));
+        k += 1;
+    }
+    end
+}
+
+// Puts the first line: how many inputs, outputs, work lines and gates there are.
+pub fn put_head(out: &mut [u8], at: usize, head: CircuitHead) -> usize
+    requires { ⌜ TextFits (firstLine head) at (now out) ⌝ }
+    ensures { λ r. ⌜ Put (firstLine head) at r (now (out .entry)) (now (out .exit)) ⌝ }
+{
+    let kinds = [head.inputs as u64, head.outputs as u64, head.work as u64];
+    let after_word = put_word(out, at, b"lines");
+    let after_kinds = put_numbers(out, after_word, &kinds);
+    put_line(out, after_kinds, b" gates", &[head.gates as u64])
 }

@@ -5,26 +5,29 @@ use mathlib.Core.Path.{_≡_, refl, sym, ap, ap₂, _∙_}
 use mathlib.Core.Bool.{true, false}
 use mathlib.Core.List.{List, [], _∷_, _++_}
 use lib.ListN.{length, take, drop, replicate, length-append}
-use lib.Dec.{eqb, leb}
+use lib.Dec.{leb}
 use lib.Seq.{sets}
-use borrow.Author.Tests.{ne-eqb, le-leb, lt-leb}
-use Rattle.wire.specs.Answers.{Answer, result, refused, refuse, mapAnswer}
-use Rattle.wire.specs.Contents.{bodyOf}
-use Rattle.wire.specs.declared.refusals.Refusal.the-variants as cause
+use borrow.Author.Tests.{le-leb, lt-leb}
+use Rattle.wire.specs.Limits.{mostGates}
+use Rattle.refusal.specs.Answers.{Answer, result, refused, refuse}
+use Rattle.contents.specs.Contents.{bodyOf}
+use Rattle.refusal.specs.declared.causes.Refusal.the-variants as cause
 use Rattle.gate.specs.declared.gates.Gate.{Gate}
 use Rattle.gate.specs.Gates.{target, Fits}
-use Rattle.gate.specs.GateBytes.{gateAt}
+use Rattle.gate_bytes.specs.GateBytes.{gateAt}
 use Rattle.gate.specs.Running.{without, uncompute}
 use Rattle.gate.proofs.UncomputeLaws.{without-append, without-few, uncompute-snoc, uncompute-length, one-out, one-kept}
 use Rattle.gate.proofs.WellFormedLaws.{target-below}
 use Rattle.circuit.specs.declared.reader.CircuitHead.{CircuitHead}
 use Rattle.circuit.specs.Circuits.{Circuit, headOf, gatesIn, InRange}
-use Rattle.circuit.specs.Format.{fileLength, openingBytes, circuitFile, areaAfter}
-use Rattle.circuit.specs.Steps.{putGates}
+use Rattle.circuit.specs.Format.{fileLength, openingBytes, circuitFile}
+use Rattle.areas.specs.AreaGates.{putGates}
 use Rattle.circuit.specs.Reading.{readWithLines}
 use Rattle.circuit.proofs.AcceptedLaws.{accepted, legal, with-lines, lines-gates, reader-room}
 use Rattle.circuit.proofs.GateBodyLaws.{gates-from, gates-none, gates-whole, gates-last, gates-first-none, gate-formed}
-use Rattle.circuit.proofs.WriterLaws.{put-length, put-none, put-append, file-length, file-written}
+use Rattle.areas.proofs.OutcomeLaws.{Outcome, outcome-refused, outcome-room, outcome-written}
+use Rattle.areas.proofs.WriterLaws.{put-length, put-none, put-append}
+use Rattle.circuit.proofs.FormatLaws.{file-length}
 use Rattle.undo.specs.UndoCircuit.{chosen, undoCircuit, undoFile}
 
 module _ (body choices : List ℕ) where
@@ -134,20 +137,13 @@ module _ (body choices : List ℕ) where
 -- undoing a file into an area
 module _ (f choices area : List ℕ) where
   -- the answer a and the area at exit are those of the service's definition
-  pub record Outcome (a : Answer CircuitHead) (after : List ℕ) : Type 0 where
-    pub answer : a ≡ mapAnswer headOf (undoFile f choices (length area))
-    pub area-is : after ≡ areaAfter (undoFile f choices (length area)) area
-
-  outcome : (x : Answer Circuit) → undoFile f choices (length area) ≡ x → Outcome (mapAnswer headOf x) (areaAfter x area)
-  outcome x e = record { answer = rw e refl; area-is = rw e refl }
+  abbrev Undoes : Answer CircuitHead → List ℕ → Type 0
+  Undoes a after = Outcome (undoFile f choices (length area)) area a after
 
   -- the reader's refusal leaves the area as it was
-  pub undo-refused : (n p : ℕ) → readWithLines f choices ≡ refused n p → Outcome (refused n p) area
+  pub undo-refused : (n p : ℕ) → readWithLines f choices ≡ refused n p → Undoes (refused n p) area
   unfolding undoFile
-  undo-refused n p e =
-      let other : eqb n 11 ≡ false = ne-eqb n 11 (reader-room f choices n p e) in
-      let o = outcome (refused n p) (rw e refl) in
-      record { answer = o .answer; area-is = sym (rw other refl) ∙ o .area-is }
+  undo-refused n p e = outcome-refused area n p (reader-room f choices n p e) (rw e refl)
 
   module _ (c : Circuit) (e : readWithLines f choices ≡ result c) where
     abbrev gates : List Gate
@@ -162,7 +158,7 @@ module _ (f choices area : List ℕ) where
     undo-count k q = ap (λ (gs : List Gate). length gs) undo-gates ∙ uncompute-length (chosen choices) gates ∙ sym q
 
     -- at most 8,000
-    pub kept-few : length (without (chosen choices) gates) ≤ 8000
+    pub kept-few : length (without (chosen choices) gates) ≤ mostGates
     kept-few =
         omega (
           arith,
@@ -176,11 +172,11 @@ module _ (f choices area : List ℕ) where
 
     -- no room: the whole area is zero, and the place is the number of gates
     pub undo-room : (k : ℕ) → k ≡ length (without (chosen choices) gates) → length area < fileLength k
-        → Outcome (refuse (cause.Room k)) (replicate (length area) 0)
+        → Undoes (refuse (cause.Room k)) (replicate (length area) 0)
     unfolding undoFile
     undo-room k q short =
         let test : leb (length (circuitFile (undoCircuit choices c))) (length area) ≡ false = lt-leb (length (circuitFile (undoCircuit choices c))) (length area) (omega (arith, fits k q)) in
-        outcome (refuse (cause.Room k)) (rw (e, test, undo-count k q) refl)
+        outcome-room area k (rw (e, test, undo-count k q) refl)
 
     -- the numbers of the circuit written
     pub undo-head : (h : CircuitHead) (k : ℕ) → h ≡ headOf c → k ≡ length (without (chosen choices) gates)
@@ -205,11 +201,9 @@ module _ (f choices area : List ℕ) where
     pub undo-written : (k : ℕ) {area₁ area₂ : List ℕ} → k ≡ length (without (chosen choices) gates) → fileLength k ≤ length area
         → area₁ ≡ sets area 0 (openingBytes (headOf (undoCircuit choices c)))
         → area₂ ≡ putGates area₁ 0 (uncompute (chosen choices) gates)
-        → Outcome (result (headOf (undoCircuit choices c))) area₂
+        → Undoes (result (headOf (undoCircuit choices c))) area₂
     unfolding undoFile
     undo-written k {area₁} {area₂} q room e₁ e₂ =
         let d : Circuit = undoCircuit choices c in
         let test : leb (length (circuitFile d)) (length area) ≡ true = le-leb (length (circuitFile d)) (length area) (omega (arith, fits k q)) in
-        let o = outcome (result d) (rw (e, test) refl) in
-        let written : area₂ ≡ circuitFile d ++ drop (length (circuitFile d)) area = file-written area d (omega (arith, room, undo-count k q)) e₁ (e₂ ∙ ap (putGates area₁ 0) (sym undo-gates)) in
-        record { answer = o .answer; area-is = written ∙ o .area-is }
+        outcome-written area d (rw (e, test) refl) (omega (arith, room, undo-count k q)) e₁ (e₂ ∙ ap (putGates area₁ 0) (sym undo-gates))

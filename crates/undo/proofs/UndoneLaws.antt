@@ -7,11 +7,12 @@ use mathlib.Core.List.{List, []}
 use lib.ListN.{length}
 use lib.Dec.{leb}
 use borrow.Author.Tests.{ne-eqb}
-use Rattle.wire.specs.Answers.{Answer, result, check}
+use Rattle.wire.specs.Limits.{mostGates}
+use Rattle.refusal.specs.Answers.{Answer, result, check}
 use Rattle.wire.specs.Bits.{bit}
-use Rattle.wire.specs.declared.refusals.Refusal.{Refusal}
-use Rattle.wire.specs.declared.refusals.Refusal.the-variants as cause
-use Rattle.wire.proofs.AnswerLaws.{checked-next, same-result, led}
+use Rattle.refusal.specs.declared.causes.Refusal.{Refusal}
+use Rattle.refusal.specs.declared.causes.Refusal.the-variants as cause
+use Rattle.refusal.proofs.AnswerLaws.{checked-next, same-result, led}
 use Rattle.gate.specs.Gates.{WellFormed}
 use Rattle.gate.specs.Running.{run, uncompute, without}
 use Rattle.gate.proofs.AllLaws.{all-reverse}
@@ -55,7 +56,7 @@ module _ (f choices : List ℕ) (d : Circuit) (u : Undid f choices d) where
       }
 
   -- and has at most 8,000 gates
-  pub undone-few : length (d .gates) ≤ 8000
+  pub undone-few : length (d .gates) ≤ mostGates
   undone-few = rw (u .is) at (undone-legal .numbers .gates-most)
 
 -- the file that undoing writes reads back

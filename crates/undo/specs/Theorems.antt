@@ -3,7 +3,7 @@ use Prim.Native.Nat.{ℕ}
 use mathlib.Core.Path.{_≡_}
 use mathlib.Core.List.{List}
 use lib.ListN.{length}
-use Rattle.wire.specs.Answers.{result}
+use Rattle.refusal.specs.Answers.{result}
 use Rattle.wire.specs.Bits.{bit, Bits}
 use Rattle.gate.specs.Gates.{All}
 use Rattle.gate.specs.Running.{run}

@@ -4,9 +4,9 @@ use mathlib.Core.Bool.{Bool}
 use mathlib.Core.List.{List}
 use lib.ListN.{length}
 use lib.Dec.{eqb, leb}
-use Rattle.wire.specs.Answers.{Answer, result, refuse, check, andThen}
+use Rattle.refusal.specs.Answers.{Answer, result, refuse, check, andThen}
 use Rattle.wire.specs.Bits.{bit}
-use Rattle.wire.specs.declared.refusals.Refusal.the-variants as cause
+use Rattle.refusal.specs.declared.causes.Refusal.the-variants as cause
 use Rattle.gate.specs.Running.{uncompute}
 use Rattle.circuit.specs.declared.reader.CircuitHead.{CircuitHead}
 use Rattle.circuit.specs.Circuits.{Circuit}

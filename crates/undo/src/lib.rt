@@ -1,28 +1,27 @@
 // The service undo: the gates of a circuit file, reversed, without those whose target is chosen.
-mod writer;
-
-use crate::writer::append_gate;
-use circuit::layout::FIRST_GATE;
+use appending::writer::append_gate;
+use areas::writer::write_head;
+use circuit::layout::file_length;
 use circuit::reader::CircuitHead;
 use circuit::reader::CircuitRead;
 use circuit::reader::gate_body;
 use circuit::reader::read_with_lines;
-use circuit::writer::clear;
-use circuit::writer::write_head;
-use gate::gates::gate_at;
-use gate::gates::target_at;
-use wire::refusals::Refusal;
+use gate_bytes::reader::gate_at;
+use gate_bytes::reader::target_at;
+use refusal::causes::Refusal;
+use wire::areas::clear;
 ghost use mathlib.Core.Path.{_≡_};
 ghost use mathlib.Core.List.{_∷_, []};
 ghost use Prim.Native.Nat.{_+_, _*_, _<_, _≤_};
 ghost use lib.ListN.{length};
-ghost use Rattle.wire.specs.Answers.{mapAnswer};
+ghost use Rattle.refusal.specs.Answers.{mapAnswer};
 ghost use Rattle.gate.specs.Gates.{target, Fits};
-ghost use Rattle.gate.specs.GateBytes.{gateAt};
+ghost use Rattle.gate_bytes.specs.GateBytes.{gateAt};
 ghost use Rattle.gate.specs.Running.{without, uncompute};
 ghost use Rattle.circuit.specs.Circuits.{gatesIn, headOf};
-ghost use Rattle.circuit.specs.Format.{fileLength, areaAfter};
-ghost use Rattle.circuit.specs.Steps.{putGates};
+ghost use Rattle.circuit.specs.Format.{fileLength, circuitFile};
+ghost use Rattle.wire.specs.Areas.{areaAfter};
+ghost use Rattle.areas.specs.AreaGates.{putGates};
 ghost use Rattle.undo.specs.UndoCircuit.{chosen, undoFile, undone};
 
 // What undoing a circuit answers: the numbers of the circuit written.
@@ -96,7 +95,7 @@ fn write_undone(gates: &[u8], choices: &[u8], area: &mut [u8])
 // other refusal it is as it was.
 pub fn undo(file: &[u8], choices: &[u8], area: &mut [u8]) -> Undone
     ensures { λ r. ⌜ undone r ≡ mapAnswer headOf (undoFile (now (file .entry)) (now (choices .entry)) (length (now (area .entry)))) ⌝ }
-    ensures { λ _. ⌜ now (area .exit) ≡ areaAfter (undoFile (now (file .entry)) (now (choices .entry)) (length (now (area .entry)))) (now (area .entry)) ⌝ }
+    ensures { λ _. ⌜ now (area .exit) ≡ areaAfter (mapAnswer circuitFile (undoFile (now (file .entry)) (now (choices .entry)) (length (now (area .entry))))) (now (area .entry)) ⌝ }
 {
     let answer = read_with_lines(file, choices);
     let CircuitRead::Good(head) = answer else {
@@ -104,7 +103,7 @@ pub fn undo(file: &[u8], choices: &[u8], area: &mut [u8]) -> Undone
     };
     let gates = gate_body(file);
     let kept = count_kept(gates, choices);
-    if area.len() < FIRST_GATE + 8 * kept {
+    if area.len() < file_length(kept) {
         clear(area);
         return Undone::Refused(Refusal::Room(kept as u64));
     }

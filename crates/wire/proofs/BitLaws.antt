@@ -10,8 +10,8 @@ use lib.Seq.{getD-take}
 use lib.Dec.{eqb, ltb}
 use borrow.Author.Tests.{eqb-true, ltb-true, ltb-false, eqb-false, eq-eqb, lt-ltb}
 use Rattle.wire.specs.Bits.{xorBit, bit, Bits, bitsFit}
-use Rattle.wire.specs.Checks.{allBelow}
-use Rattle.wire.proofs.CheckLaws.{by-test, both-first, both-second, all-below, below-all}
+use Rattle.refusal.specs.Checks.{allBelow}
+use Rattle.refusal.proofs.CheckLaws.{by-test, both-first, both-second, all-below, below-all}
 
 -- XOR and AND of bits are bits
 pub xor-bit : (a b : ℕ) → xorBit a b < 2

@@ -2,14 +2,14 @@
 use Prim.Native.Nat.{ℕ, _+_, _*_, _/_, _%_, _<_, _≤_}
 use native.Mathlib.Omega.{arith}
 use native.Mathlib.Nat.{add-zero, div-div-eq-div-mul, mod-add-div}
-use mathlib.Core.Path.{_≡_, sym, ap, _∙_}
+use mathlib.Core.Path.{_≡_, sym, ap, ap₂, _∙_}
 use mathlib.Core.List.{List, [], _∷_, _++_}
 use lib.ListN.{length, getD, take, drop, length-take, List·getD-eq-default}
 use lib.Seq.{getD-append-add, getD-take, getD-drop}
 use lib.Dec.{ltb}
 use borrow.Author.Tests.{ltb-true, ltb-false}
 use Rattle.wire.specs.Bytes.{at16, at32, bytes16, bytes32, Bytes}
-use Rattle.wire.proofs.CheckLaws.{by-test}
+use Rattle.refusal.proofs.CheckLaws.{by-test}
 use Rattle.wire.proofs.ListLaws.{drop-next}
 
 -- past the last byte there are zeros
@@ -77,6 +77,12 @@ at32-after pre s i =
     let f : length pre + i + 2 ≡ length pre + (i + 2) = omega arith in
     let g : length pre + i + 3 ≡ length pre + (i + 3) = omega arith in
     simp (e, f, g, getD-append-add)
+
+-- a number is read from where its first byte stands
+pub at16-from : (s : List ℕ) (i : ℕ) → at16 s i ≡ at16 (drop i s) 0
+at16-from s i =
+    let e : getD s i 0 ≡ getD (drop i s) 0 0 = ap (λ (k : ℕ). getD s k 0) (sym (add-zero i)) ∙ sym (getD-drop i s 0 0) in
+    ap₂ (λ (x y : ℕ). x + 256 * y) e (sym (getD-drop i s 1 0))
 
 -- a number whose bytes follow a list is read there
 pub at16-in : (pre rest : List ℕ) (v : ℕ) → v < 65536 → at16 (pre ++ (bytes16 v ++ rest)) (length pre) ≡ v

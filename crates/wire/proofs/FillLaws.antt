@@ -1,13 +1,15 @@
--- Laws of a loop that stores the entries of a list in their order. Assumes nothing.
-use Prim.Native.Nat.{ℕ, _+_, _<_, _≤_}
+-- Laws of a loop that stores the numbers of a list in their order, one or several at a time. Assumes nothing.
+use Prim.Native.Nat.{ℕ, suc, _+_, _<_, _≤_}
 use native.Mathlib.Omega.{arith}
+use native.Mathlib.Nat.{add-zero}
+use native.Mathlib.Numerals.{add-one}
 use mathlib.Core.Path.{_≡_, refl, sym, ap, ap₂, _∙_}
 use mathlib.Core.List.{List, [], _∷_, _++_}
 use lib.ListN.{length, getD, take, drop, set, length-set}
-use lib.Seq.{take-all, take-at, set-at, append-snoc, length-take-le}
+use lib.Seq.{sets, take-all, take-at, set-at, append-snoc, length-take-le}
 use Rattle.wire.proofs.ListLaws.{drop-next, take-next}
 
--- a loop has stored the first i entries of all in the list, which was list₀
+-- a loop has stored the first i numbers of all in the list, which was list₀
 pub record Filled (all list₀ list : List ℕ) (i : ℕ) : Type 0 where
   pub within : i ≤ length all
   pub same : length list ≡ length list₀
@@ -21,7 +23,7 @@ module _ {all list₀ : List ℕ} where
     stored : length (take i all) ≡ i
     stored = length-take-le i all (p .within)
 
-    -- the first i entries are stored
+    -- the first i numbers are stored
     pub filled-front : take i list ≡ take i all
     filled-front = ap (take i) (p .is) ∙ take-at (take i all) (drop i list₀) i stored
 
@@ -38,8 +40,22 @@ module _ {all list₀ : List ℕ} where
               ∙ ap (λ (l : List ℕ). l ++ drop (i + 1) list₀) (sym (take-next all i 0 h));
         }
 
-    -- every entry is stored
+    -- every number is stored
     pub filled-all : length all ≤ i → list ≡ all ++ drop (length all) list₀
     filled-all h =
         let e : i ≡ length all = omega (arith, p .within) in
         p .is ∙ ap₂ (λ (l : List ℕ) (n : ℕ). l ++ drop n list₀) (take-all i all h) e
+
+-- several numbers are stored behind those that are
+pub filled-run : {all list₀ : List ℕ} (vs : List ℕ) {list : List ℕ} {i : ℕ} → Filled all list₀ list i → vs ≡ take (length vs) (drop i all)
+    → i + length vs ≤ length all → length all ≤ length list₀ → Filled all list₀ (sets list i vs) (i + length vs)
+filled-run [] {list} {i} p e h fits = rw (add-zero i) p
+filled-run {all} {list₀} (v ∷ vs) {list} {i} p e h fits =
+    let here : drop i all ≡ getD all i 0 ∷ drop (i + 1) all = drop-next all i 0 (omega arith) in
+    let both : v ∷ vs ≡ getD all i 0 ∷ take (length vs) (drop (i + 1) all) = e ∙ ap (take (suc (length vs))) here in
+    let first : v ≡ getD all i 0 = cc in
+    let rest : vs ≡ take (length vs) (drop (i + 1) all) = cc in
+    let next : i + 1 + length vs ≡ i + suc (length vs) = omega arith in
+    let more : Filled all list₀ (sets (set list i v) (i + 1) vs) (i + 1 + length vs) =
+    filled-run vs (filled-next p first (omega arith) fits) rest (omega arith) fits in
+    rw (next, add-one i) at more

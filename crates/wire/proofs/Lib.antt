@@ -1,8 +1,5 @@
-pub mod AnswerLaws
+pub mod AreaLaws
 pub mod BitLaws
 pub mod ByteLaws
-pub mod CheckLaws
-pub mod ContentsLaws
 pub mod FillLaws
 pub mod ListLaws
-pub mod WrittenLaws

@@ -1,13 +1,13 @@
 -- Laws of lists at the code's next index, i + 1, and of runs of stores. Assumes nothing.
-use Prim.Native.Nat.{ℕ, zero, suc, _+_, _<_, _≤_}
+use Prim.Native.Nat.{ℕ, zero, suc, _+_, _*_, _<_, _≤_}
 use native.Mathlib.Omega.{arith}
-use native.Mathlib.Nat.{add-zero}
-use mathlib.Core.Path.{_≡_, refl, sym, ap, ap₂, _∙_}
-use mathlib.Core.List.{List, [], _∷_, _++_, map}
+use native.Mathlib.Nat.{add-zero, add-comm, mul-zero, mul-suc}
 use native.Mathlib.Numerals.{add-one}
-use lib.ListN.{length, getD, take, drop, set, length-set}
+use mathlib.Core.Path.{_≡_, refl, sym, ap, ap₂, _∙_}
+use mathlib.Core.List.{List, [], _∷_, _++_, map, flatMap}
+use lib.ListN.{length, getD, take, drop, set, length-set, length-append, take-append-drop, drop-of-length-le}
+use lib.Seq.{sets, drop-cons, drop-drop, take-suc, take-nil, take-at, take-append-add, drop-append-add, getD-set-same, getD-set-other}
 use Rattle.wire.specs.Lists.{tabulateFrom, tabulate}
-use lib.Seq.{sets, drop-cons, take-suc, getD-set-same, getD-set-other}
 
 -- one element more is dropped
 pub drop-next : {A : Type 0} (l : List A) (i : ℕ) (d : A) → i < length l → drop i l ≡ getD l i d ∷ drop (i + 1) l
@@ -56,6 +56,62 @@ pub take-map : {A B : Type 0} (f : A → B) (l : List A) (i : ℕ) → take i (m
 take-map f l zero = refl
 take-map f [] (suc i) = refl
 take-map f (a ∷ l) (suc i) = ap (λ m. f a ∷ m) (take-map f l i)
+
+mul-suc-front : (w n : ℕ) → w * suc n ≡ w + w * n
+mul-suc-front w n = mul-suc w n ∙ add-comm (w * n) w
+
+-- entries of w numbers each, one behind the other: how many numbers, the first entries, and one of them
+module _ {A : Type 0} (w : ℕ) (f : A → List ℕ) (wide : (a : A) → length (f a) ≡ w) where
+  pub flat-length : (l : List A) → length (flatMap f l) ≡ w * length l
+  unfolding flatMap
+  flat-length [] = sym (mul-zero w)
+  flat-length (a ∷ l) = length-append (f a) (flatMap f l) ∙ ap₂ _+_ (wide a) (flat-length l) ∙ sym (mul-suc-front w (length l))
+
+  pub flat-take : (l : List A) (i : ℕ) → take (w * i) (flatMap f l) ≡ flatMap f (take i l)
+  unfolding flatMap
+  flat-take l zero = ap (λ (n : ℕ). take n (flatMap f l)) (mul-zero w)
+  flat-take [] (suc i) = take-nil (w * suc i)
+  flat-take (a ∷ l) (suc i) =
+      ap (λ (n : ℕ). take n (f a ++ flatMap f l)) (mul-suc-front w i ∙ ap (λ (n : ℕ). n + w * i) (sym (wide a)))
+      ∙ take-append-add (f a) (flatMap f l) (w * i)
+      ∙ ap (λ (m : List ℕ). f a ++ m) (flat-take l i)
+
+  pub flat-at : (l : List A) (i : ℕ) (d : A) → i < length l → take w (drop (w * i) (flatMap f l)) ≡ f (getD l i d)
+  unfolding flatMap
+  flat-at [] i d h = absurd (omega arith)
+  flat-at (a ∷ l) zero d h = ap (λ (n : ℕ). take w (drop n (f a ++ flatMap f l))) (mul-zero w) ∙ take-at (f a) (flatMap f l) w (wide a)
+  flat-at (a ∷ l) (suc i) d h =
+      ap (λ (n : ℕ). take w (drop n (f a ++ flatMap f l))) (mul-suc-front w i ∙ ap (λ (n : ℕ). n + w * i) (sym (wide a)))
+      ∙ ap (take w) (drop-append-add (f a) (flatMap f l) (w * i))
+      ∙ flat-at l i d (omega arith)
+
+  -- entry i and those behind it
+  pub flat-drop : (l : List A) (i : ℕ) (d : A) → i < length l → drop (w * i) (flatMap f l) ≡ f (getD l i d) ++ drop (w * i + w) (flatMap f l)
+  flat-drop l i d h =
+      sym (take-append-drop w (drop (w * i) (flatMap f l)))
+      ∙ ap₂ _++_ (flat-at l i d h) (drop-drop w (w * i) (flatMap f l))
+
+  -- numbers that are, entry by entry, those of at 0, at 1, .., are the entries
+  module _ (at : ℕ → A) (body : List ℕ) (k : ℕ) (long : length body ≡ w * k) (each : (i : ℕ) → i < k → drop (w * i) body ≡ f (at i) ++ drop (w * i + w) body) where
+    only-from : (i r : ℕ) → i + r ≡ k → drop (w * i) body ≡ flatMap f (tabulateFrom at i r)
+    unfolding flatMap tabulateFrom
+    only-from i zero n =
+        let e : i ≡ k = sym (add-zero i) ∙ n in
+        let past : length body ≤ w * i = omega (arith, long, ap (λ (j : ℕ). w * j) e) in
+        drop-of-length-le body {i = w * i} past
+    only-from i (suc r) n =
+        each i (omega arith)
+        ∙ ap (λ (j : ℕ). f (at i) ++ drop j body) (sym (mul-suc w i))
+        ∙ ap (λ (s : List ℕ). f (at i) ++ s) (only-from (suc i) r (omega arith))
+
+    pub flat-only : body ≡ flatMap f (tabulate at k)
+    flat-only = ap (λ (n : ℕ). drop n body) (sym (mul-zero w)) ∙ only-from 0 k (omega arith)
+
+-- entries of one number each
+pub flat-single : {A : Type 0} (f : A → ℕ) (l : List A) → flatMap (λ (a : A). f a ∷ []) l ≡ map f l
+unfolding flatMap
+flat-single f [] = refl
+flat-single f (a ∷ l) = ap (λ (m : List ℕ). f a ∷ m) (flat-single f l)
 
 -- a list made by index has as many elements as were asked for, each where its index says
 tabulateFrom-length : {A : Type 0} (make : ℕ → A) (i k : ℕ) → length (tabulateFrom make i k) ≡ k

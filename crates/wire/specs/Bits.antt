@@ -4,7 +4,7 @@ use mathlib.Core.Bool.{Bool, _&&_}
 use mathlib.Core.List.{List}
 use lib.ListN.{length, getD}
 use lib.Dec.{eqb, ltb}
-use Rattle.wire.specs.Checks.{allBelow}
+use Rattle.refusal.specs.Checks.{allBelow}
 
 -- the XOR of two bits; their AND is the product
 unfoldable pub xorBit : ℕ → ℕ → ℕ

@@ -1,8 +1,5 @@
-pub mod Answers
-pub mod Arity
+pub mod Areas
 pub mod Bits
 pub mod Bytes
-pub mod Checks
-pub mod Contents
+pub mod Limits
 pub mod Lists
-pub mod Steps

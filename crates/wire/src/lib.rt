@@ -1,9 +1,6 @@
-// What every file and every service shares: numbers in bytes, the table of contents that opens a
-// file, the numbers of inputs and outputs behind it, bits kept in bytes, tests put together, and the
-// causes for which a service refuses.
-pub mod arity;
+// Numbers of 16 and 32 bits and single bits, as they are kept in bytes, the limits of files, and
+// lent areas.
+pub mod areas;
 pub mod bits;
-pub mod checks;
-pub mod contents;
+pub mod limits;
 pub mod numbers;
-pub mod refusals;

@@ -5,26 +5,25 @@ use mathlib.Core.Path.{_≡_, refl, ap, _∙_}
 use mathlib.Core.Bool.{true}
 use mathlib.Core.List.{List, [], _∷_}
 use lib.ListN.{length}
-use Rattle.wire.specs.Checks.{allBelow, lowestFrom}
+use Rattle.refusal.specs.Checks.{allBelow, lowestFrom}
 use Rattle.wire.specs.Lists.{tabulateFrom}
-use Rattle.wire.proofs.CheckLaws.{all-below}
+use Rattle.refusal.proofs.CheckLaws.{all-below}
 use Rattle.wire.proofs.ListLaws.{tabulate-length, tabulate-at}
 use Rattle.circuit.specs.Circuits.{InRange}
-use Rattle.program.specs.declared.node.Node.the-variants.{Zero}
-use Rattle.program.specs.Exprs.{Expr, INPUT, AND, size}
-use Rattle.program.specs.Nodes.{nodeAt, nodesIn, nodeFits, operandsFit}
-use Rattle.program.specs.Trees.{trees, treesFrom, treeOf}
-use Rattle.program.specs.Steps.{TableOk}
-use Rattle.program.proofs.NodeLaws.{node-ok}
+use Rattle.node.specs.declared.nodes.Node.the-variants.{Zero}
+use Rattle.node.specs.Exprs.{Expr, INPUT, AND, size}
+use Rattle.node.specs.Nodes.{nodeAt, nodesIn, nodeFits, operandsFit, TableOk}
+use Rattle.node.specs.Trees.{trees, treesFrom, treeOf}
+use Rattle.node.proofs.NodeLaws.{node-ok}
 use Rattle.construction.specs.Construction.{linesNeeded}
 use Rattle.construction.proofs.Numbers.{held, most, mostOf}
 use Rattle.construction.proofs.PoolLaws.{lines-needed}
 use Rattle.construction.specs.Counting.{gatesShown}
 use Rattle.construction.specs.Steps.{gateCount, ownCount, shareCount, sharesCount}
-use Rattle.construct.specs.declared.counter.Needs.{Needs}
-use Rattle.construct.specs.Counters.{AllCountable, Needed}
-use Rattle.construct.specs.Tables.{treeIn, treesIn, Valid}
-use Rattle.construct.specs.Writing.{CircuitRoom}
+use Rattle.counting.specs.declared.Needs.{Needs}
+use Rattle.counting.specs.Counters.{AllCountable, Needed}
+use Rattle.program.specs.Tables.{treeIn, treesIn, Valid}
+use Rattle.shares.specs.Sharing.{CircuitRoom}
 
 -- INPUT 0, INPUT 1, AND 0 1, INPUT 2, AND 2 3, INPUT 3, AND 4 5
 abbrev pub nodes : List ℕ
@@ -95,5 +94,6 @@ case-room area e =
       ordered = ordered;
       named = λ k h. let z : k ≡ 0 = omega arith in rw z (omega arith);
       lines = omega (arith, case-lines);
+      few = omega (arith, case-gates);
       room = omega (arith, case-gates, e);
     }

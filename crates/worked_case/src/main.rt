@@ -1,8 +1,7 @@
 // Writes the circuit file of document 01's worked case, the AND of four inputs, to standard output.
 use circuit::reader::CircuitHead;
-use circuit::writer::write_head;
-use construct::counter::count_shares;
-use construct::sharer::write_shares;
+use counting::count_shares;
+use shares::write_circuit;
 
 fn main() {
     // INPUT 0, INPUT 1, AND 0 1, INPUT 2, AND 2 3, INPUT 3, AND 4 5; the output is node 6.
@@ -17,7 +16,6 @@ fn main() {
         work: needs.lines,
         gates: needs.gates,
     };
-    write_head(&mut area, head);
-    write_shares(nodes, outputs, 4, &mut area);
+    write_circuit(nodes, outputs, head, &mut area);
     io::write_all(1, &area);
 }

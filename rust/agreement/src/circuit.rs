@@ -162,23 +162,11 @@ pub fn damaged(random: &mut Random) -> Vec<u8> {
         damage_fields(random, &mut circuit);
     }
     match random.below(10) {
-        0 => {
-            damage_head(random, &mut circuit);
-            circuit.bytes()
-        }
-        1..=2 => {
-            damage_fields(random, &mut circuit);
-            circuit.bytes()
-        }
-        3 => damage::with_table_damaged(random, circuit.layout()),
-        4 => damage::with_bodies_resized(random, circuit.layout(), 8),
-        5 => damage::with_bodies_swapped(random, circuit.layout()),
-        6 => damage::with_a_byte_changed(random, circuit.bytes(), 28),
-        7 => damage::cut_short(random, circuit.bytes(), 22),
-        8 => damage::lengthened(random, circuit.bytes()),
-        _ if random.once_in(2) => damage::with_sums_past_32_bits(random, circuit.layout()),
-        _ => damage::noise(random, 2),
+        0 => damage_head(random, &mut circuit),
+        1..=2 => damage_fields(random, &mut circuit),
+        _ => return damage::in_some_way(random, circuit.layout(), 8),
     }
+    circuit.bytes()
 }
 
 /// Changes the head, the number of gates or, mostly, a field of one or two gates.

@@ -3,8 +3,23 @@
 use crate::layout::{Entry, Layout};
 use crate::random::Random;
 
+/// The file damaged in one of the ways below. The record is the length of a node or a gate.
+pub fn in_some_way(random: &mut Random, layout: Layout, record: usize) -> Vec<u8> {
+    let (table, head_end) = (layout.entries[0].start as usize, layout.entries[1].start as usize);
+    match random.below(8) {
+        0 => with_table_damaged(random, layout),
+        1 => with_bodies_resized(random, layout, record),
+        2 => with_bodies_swapped(random, layout),
+        3 => with_a_byte_changed(random, layout.bytes(), head_end),
+        4 => cut_short(random, layout.bytes(), table),
+        5 => lengthened(random, layout.bytes()),
+        6 => with_sums_past_32_bits(random, layout),
+        _ => noise(random, layout.entry_count),
+    }
+}
+
 /// The file with its entry count, a tag, a start or a length changed.
-pub fn with_table_damaged(random: &mut Random, mut layout: Layout) -> Vec<u8> {
+fn with_table_damaged(random: &mut Random, mut layout: Layout) -> Vec<u8> {
     let count = layout.entry_count;
     if random.once_in(6) {
         layout.entry_count = random.pick(&[0, 1, count - 1, count + 1, count + 256, 65535]);
@@ -32,24 +47,15 @@ fn near(random: &mut Random, number: u32) -> u32 {
     ])
 }
 
-/// The file with a length near 2^32, and what follows in the table fitted to it in 32 bits.
-pub fn with_sums_past_32_bits(random: &mut Random, mut layout: Layout) -> Vec<u8> {
-    let last = layout.entries.len() - 1;
-    let i = random.below(last);
+/// The file with a length near 2^32, and the next body fitted to it in 32 bits.
+fn with_sums_past_32_bits(random: &mut Random, layout: Layout) -> Vec<u8> {
+    let body = random.below(layout.entries.len() - 1);
     let back = random.within(1..=32) as u32;
-    layout.entries[i].length = back.wrapping_neg();
-    for k in i..last {
-        let entry = layout.entries[k];
-        layout.entries[k + 1].start = entry.start.wrapping_add(entry.length);
-    }
-    let file_length = layout.bytes().len() as u32;
-    layout.entries[last].length = file_length.wrapping_sub(layout.entries[last].start);
-    layout.bytes()
+    layout.with_length_fitted(body, back.wrapping_neg()).bytes()
 }
 
 /// The file with a body longer or shorter, at its neighbour's cost or not, and a table that fits.
-/// The record is the length of the format's main record.
-pub fn with_bodies_resized(random: &mut Random, mut layout: Layout, record: usize) -> Vec<u8> {
+fn with_bodies_resized(random: &mut Random, mut layout: Layout, record: usize) -> Vec<u8> {
     let i = random.below(layout.bodies.len());
     let step = random.pick(&[1, 2, 3, record, 2 * record]);
     let length = layout.bodies[i].len();
@@ -67,7 +73,7 @@ pub fn with_bodies_resized(random: &mut Random, mut layout: Layout, record: usiz
 }
 
 /// The file with two bodies swapped, and the table as it was, fitted, or swapped as well.
-pub fn with_bodies_swapped(random: &mut Random, mut layout: Layout) -> Vec<u8> {
+fn with_bodies_swapped(random: &mut Random, mut layout: Layout) -> Vec<u8> {
     let count = layout.bodies.len();
     let i = random.below(count);
     let j = (i + random.within(1..=count - 1)) % count;
@@ -124,7 +130,7 @@ pub fn lengthened(random: &mut Random, file: Vec<u8>) -> Vec<u8> {
 }
 
 /// Bytes that are no file, every other time with this entry count.
-pub fn noise(random: &mut Random, entry_count: u16) -> Vec<u8> {
+fn noise(random: &mut Random, entry_count: u16) -> Vec<u8> {
     let length = random.within(0..=100);
     let mut file = random.bytes(length);
     if length >= 2 && random.once_in(2) {

@@ -3,6 +3,7 @@
 use model::circuit::Circuit;
 use model::construct;
 
+use crate::bits;
 use crate::program::{self, and, input, not, xor, Node, Program, ONE, ZERO};
 use crate::random::Random;
 
@@ -130,8 +131,7 @@ pub fn fitted(random: &mut Random, mut program: Program) -> Program {
 pub fn starts(random: &mut Random, circuit: &Circuit) -> Vec<Vec<u8>> {
     let lines = circuit.lines();
     if lines <= 7 {
-        let start = |state: usize| (0..lines).map(|line| (state >> line & 1) as u8).collect();
-        return (0..1 << lines).map(start).collect();
+        return (0..1 << lines).map(|state| bits(state, lines)).collect();
     }
     // Mostly ones, so that not every AND is 0.
     let mostly_ones = (0..lines).map(|_| u8::from(!random.once_in(8))).collect();

@@ -6,7 +6,7 @@ use crate::compare::run::Direction::{self, Backwards, Forwards};
 use crate::compare::{compile, evaluate, read, run, undo};
 use crate::random::Random;
 use crate::tally::Tally;
-use crate::{circuit, damage, drawn, limits, program, shaped, shaped_circuit};
+use crate::{circuit, damage, drawn, limits, program, shaped};
 
 /// The services, each with what it has met.
 pub struct Fuzz {
@@ -26,7 +26,7 @@ impl Default for Fuzz {
             "run_backwards",
             "undo",
         ];
-        let shaped = shaped::all().into_iter().chain(shaped_circuit::all());
+        let shaped = shaped::program::all().into_iter().chain(shaped::circuit::all());
         Fuzz {
             shaped: shaped.map(|shaped| shaped.file).collect(),
             at_limits: programs_at_limits(),

@@ -75,6 +75,18 @@ impl Layout {
         self
     }
 
+    /// The same with another length for a body, and the next one's start and length fitted to it in
+    /// 32 bits.
+    pub fn with_length_fitted(mut self, body: usize, length: u32) -> Layout {
+        let file_length = self.bytes().len() as u32;
+        let next_end = self.entries.get(body + 2).map_or(file_length, |entry| entry.start);
+        self.entries[body].length = length;
+        let start = self.entries[body].start.wrapping_add(length);
+        self.entries[body + 1].start = start;
+        self.entries[body + 1].length = next_end.wrapping_sub(start);
+        self
+    }
+
     /// The file.
     pub fn bytes(&self) -> Vec<u8> {
         let mut file = self.entry_count.to_le_bytes().to_vec();

@@ -13,9 +13,9 @@ pub mod limits;
 pub mod listing_cases;
 pub mod program;
 pub mod random;
+pub mod repository;
 pub mod seen;
 pub mod shaped;
-pub mod shaped_circuit;
 pub mod tally;
 
 /// What both sides are brought to before they are compared: a result, or a refusal's number and
@@ -32,4 +32,9 @@ pub fn hex(bytes: &[u8]) -> String {
 /// Every byte as two hex digits behind a blank.
 pub fn digits(bytes: &[u8]) -> String {
     bytes.iter().map(|byte| format!(" {byte:02x}")).collect()
+}
+
+/// The lowest bits of a number, a byte each, the lowest first.
+pub fn bits(number: u64, count: usize) -> Vec<u8> {
+    (0..count).map(|at| (number >> at & 1) as u8).collect()
 }

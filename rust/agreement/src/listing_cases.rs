@@ -46,15 +46,10 @@ pub fn files() -> Vec<(PathBuf, Vec<u8>)> {
     files.push((folder.join("stdout"), text().into_bytes()));
 
     let folder = PathBuf::from("crates/listing");
-    let whole_case = model::listing::listing(&shaped::WHOLE_CASE, GRANT);
-    files.push((folder.join("stdin"), shaped::WHOLE_CASE.to_vec()));
+    let whole_case = model::listing::listing(&shaped::program::WHOLE_CASE, GRANT);
+    files.push((folder.join("stdin"), shaped::program::WHOLE_CASE.to_vec()));
     files.push((folder.join("stdout"), whole_case.into_bytes()));
     files
-}
-
-/// The repository's folder.
-pub fn repository() -> PathBuf {
-    PathBuf::from(concat!(env!("CARGO_MANIFEST_DIR"), "/../.."))
 }
 
 fn case(name: &'static str, file: Vec<u8>, first_line: &'static str) -> Case {
@@ -62,8 +57,8 @@ fn case(name: &'static str, file: Vec<u8>, first_line: &'static str) -> Case {
 }
 
 fn refused_by_the_reader() -> Vec<Case> {
-    let whole_case = |bytes: usize| shaped::WHOLE_CASE[..bytes].to_vec();
-    let mut wrong_tag = shaped::whole_case().layout();
+    let whole_case = |bytes: usize| shaped::program::WHOLE_CASE[..bytes].to_vec();
+    let mut wrong_tag = shaped::program::whole_case().layout();
     wrong_tag.entries[2].tag = 4;
     let no_nodes = Program::new(2, &[], &[2]);
     let inputs_65 = Program::new(65, &[input(64)], &[0]);
@@ -84,12 +79,12 @@ fn refused_by_the_reader() -> Vec<Case> {
 fn examples() -> Vec<Case> {
     let three_outputs = Program::new(1, &[input(0), ONE, and(0, 1), and(2, 0)], &[2, 3, 1]);
     vec![
-        case("whole_case", shaped::WHOLE_CASE.to_vec(), "lines 2 1 2 gates 5"),
-        case("nor", shaped::nor().bytes(), "lines 2 1 2 gates 9"),
-        case("and_of_three", shaped::and_of_three().bytes(), "lines 3 1 4 gates 9"),
-        case("and_of_four", shaped::and_of_four().bytes(), "lines 4 1 6 gates 13"),
-        case("xor_with_itself", shaped::xor_with_itself().bytes(), "lines 1 1 0 gates 2"),
-        case("zero", shaped::output_zero().bytes(), "lines 0 1 0 gates 0"),
+        case("whole_case", shaped::program::WHOLE_CASE.to_vec(), "lines 2 1 2 gates 5"),
+        case("nor", shaped::program::nor().bytes(), "lines 2 1 2 gates 9"),
+        case("and_of_three", shaped::program::and_of_three().bytes(), "lines 3 1 4 gates 9"),
+        case("and_of_four", shaped::program::and_of_four().bytes(), "lines 4 1 6 gates 13"),
+        case("xor_with_itself", shaped::program::xor_with_itself().bytes(), "lines 1 1 0 gates 2"),
+        case("zero", shaped::program::output_zero().bytes(), "lines 0 1 0 gates 0"),
         case("one", Program::new(0, &[ONE], &[0]).bytes(), "lines 0 1 0 gates 1"),
         case("three_outputs", three_outputs.bytes(), "lines 1 3 4 gates 15"),
     ]
@@ -97,7 +92,8 @@ fn examples() -> Vec<Case> {
 
 /// The XOR chain of 01: its last node, NOT of it, NOT of that, and all three.
 fn sizes() -> Vec<Case> {
-    let chain = |outputs: &[u16]| Program::new(0, &shaped::xor_chain().nodes, outputs).bytes();
+    let chain =
+        |outputs: &[u16]| Program::new(0, &shaped::program::xor_chain().nodes, outputs).bytes();
     vec![
         case("size_16383", chain(&[13]), "lines 0 1 0 gates 0"),
         case("size_16384", chain(&[14]), "lines 0 1 0 gates 1"),
@@ -122,7 +118,7 @@ fn limits() -> Vec<Case> {
 /// No program file is longer than 24,740 bytes, so each of these is refused; but which cause it is
 /// tells how many bytes were read.
 fn long_inputs() -> Vec<Case> {
-    let mut valid_then_zeros = shaped::WHOLE_CASE.to_vec();
+    let mut valid_then_zeros = shaped::program::WHOLE_CASE.to_vec();
     valid_then_zeros.resize(MOST_INPUT + 1, 0);
     // 5,455 nodes and an output: too many (3), in a table that fits 32,768 bytes.
     let fitting = Program::new(0, &[ZERO; 5_455], &[0]);

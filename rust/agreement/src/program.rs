@@ -168,23 +168,11 @@ pub fn damaged(random: &mut Random) -> Vec<u8> {
         damage_fields(random, &mut program);
     }
     match random.below(10) {
-        0 => {
-            damage_fields(random, &mut program);
-            program.bytes()
-        }
-        1 => {
-            damage_node(random, &mut program);
-            program.bytes()
-        }
-        2 => damage::with_table_damaged(random, program.layout()),
-        3 => damage::with_bodies_resized(random, program.layout(), 6),
-        4 => damage::with_bodies_swapped(random, program.layout()),
-        5 => damage::with_a_byte_changed(random, program.bytes(), 36),
-        6 => damage::cut_short(random, program.bytes(), 32),
-        7 => damage::lengthened(random, program.bytes()),
-        8 => damage::with_sums_past_32_bits(random, program.layout()),
-        _ => damage::noise(random, 3),
+        0 => damage_fields(random, &mut program),
+        1 => damage_node(random, &mut program),
+        _ => return damage::in_some_way(random, program.layout(), 6),
     }
+    program.bytes()
 }
 
 /// Changes one field of the head, of a node or of an output, mostly to a value next to a limit.

@@ -8,7 +8,7 @@ use agreement::program::{self, and, input, not, xor, Node, Program, ONE, ZERO};
 use agreement::random::Random;
 use agreement::seen::Seen;
 use agreement::tally::Tally;
-use agreement::{damage, drawn, limits, shaped, shaped_circuit, Outcome};
+use agreement::{damage, drawn, limits, shaped, Outcome};
 use model::construct;
 
 /// A shaped case on both sides, with what is expected of the answer, the list and the area.
@@ -82,13 +82,17 @@ fn short_lists(name: &str, file: &[u8], nodes: usize, work: u64) {
     }
 }
 
+/// The nodes' sizes as the model has them.
+fn sizes_of(program: &Program) -> Vec<u16> {
+    construct::sizes(&drawn::read(program).nodes).iter().map(|size| *size as u16).collect()
+}
+
 /// A program is refused whatever the area; the list is filled and the area as it was, or, at 11,
 /// all zero.
 fn refuses(name: &str, program: &Program, grant: u64, refusal: (u64, u64)) {
     let file = program.bytes();
     let nodes = program.nodes.len();
-    let unfolded = construct::sizes(&drawn::read(program).nodes);
-    let sizes: Vec<u16> = unfolded.iter().map(|size| *size as u16).collect();
+    let sizes = sizes_of(program);
     for entries in [nodes, nodes + 1, 5_000] {
         for length in [0, 1, NO_GATES - 1, NO_GATES, MOST_BYTES - 1, MOST_BYTES, 700_000] {
             let case = Case::new(&file, grant, entries, length);
@@ -100,36 +104,36 @@ fn refuses(name: &str, program: &Program, grant: u64, refusal: (u64, u64)) {
 
 #[test]
 fn the_whole_case() {
-    let circuit = shaped_circuit::whole_case();
+    let circuit = shaped::circuit::whole_case();
     assert_eq!(circuit.bytes().len(), 68);
-    gives("the whole case", &shaped::whole_case(), &[1, 1, 3], &circuit);
+    gives("the whole case", &shaped::program::whole_case(), &[1, 1, 3], &circuit);
 
-    let file = shaped::WHOLE_CASE;
+    let file = shaped::program::WHOLE_CASE;
     let case = Case::new(&file, 2, 3, 67);
     check("an area of 67", &case, Err((11, 5)), &[1, 1, 3], &[0; 67]);
     let case = Case::new(&file, 1, 3, 68);
     check("a grant of 1", &case, Err((10, 2)), &[1, 1, 3], &case.area);
     let case = Case::new(&file, 2, 3, 68);
-    check("a grant of 2", &case, Ok(68), &[1, 1, 3], &shaped_circuit::WHOLE_CASE);
+    check("a grant of 2", &case, Ok(68), &[1, 1, 3], &shaped::circuit::WHOLE_CASE);
 }
 
 #[test]
 fn the_other_examples() {
-    gives("NOR", &shaped::nor(), &[1, 1, 2, 2, 5], &shaped_circuit::nor());
-    assert_eq!((shaped_circuit::nor().gates.len(), shaped_circuit::nor().work), (9, 2));
+    gives("NOR", &shaped::program::nor(), &[1, 1, 2, 2, 5], &shaped::circuit::nor());
+    assert_eq!((shaped::circuit::nor().gates.len(), shaped::circuit::nor().work), (9, 2));
 
     gives(
         "AND of three",
-        &shaped::and_of_three(),
+        &shaped::program::and_of_three(),
         &[1, 1, 3, 1, 5],
-        &shaped_circuit::and_of_three(),
+        &shaped::circuit::and_of_three(),
     );
-    refuses("AND of three, grant 3", &shaped::and_of_three(), 3, (10, 4));
+    refuses("AND of three, grant 3", &shaped::program::and_of_three(), 3, (10, 4));
 
     let circuit = Circuit::new(1, 1, 0, &[cnot(0, 1), cnot(0, 1)]);
-    gives("XOR with itself", &shaped::xor_with_itself(), &[1, 3], &circuit);
+    gives("XOR with itself", &shaped::program::xor_with_itself(), &[1, 3], &circuit);
 
-    gives("output ZERO", &shaped::output_zero(), &[1], &Circuit::new(0, 1, 0, &[]));
+    gives("output ZERO", &shaped::program::output_zero(), &[1], &Circuit::new(0, 1, 0, &[]));
     let one = Program::new(0, &[ONE], &[0]);
     gives("output ONE", &one, &[1], &Circuit::new(0, 1, 0, &[flip(0)]));
 }
@@ -171,7 +175,7 @@ fn lines_that_no_gate_targets() {
 /// 01's slip: the fourth input's AND, whose line 5 would stay dirty if C were not reversed.
 #[test]
 fn and_of_four_inputs() {
-    let mut circuit = shaped_circuit::and_of_four_built();
+    let mut circuit = shaped::circuit::and_of_four_built();
     circuit.gates.extend([
         cnot(3, 10),
         toffoli(6, 9, 5),
@@ -180,7 +184,7 @@ fn and_of_four_inputs() {
         cnot(1, 8),
         cnot(0, 7),
     ]);
-    gives("AND of four", &shaped::and_of_four(), &[1, 1, 3, 1, 5, 1, 7], &circuit);
+    gives("AND of four", &shaped::program::and_of_four(), &[1, 1, 3, 1, 5, 1, 7], &circuit);
 }
 
 /// Sizes of the XOR chain of 01: 2^(i+1) - 1, then NOT of it twice.
@@ -192,7 +196,7 @@ fn chain_sizes() -> Vec<u16> {
 
 #[test]
 fn the_largest_size() {
-    let chain = |outputs: &[u16]| Program::new(0, &shaped::xor_chain().nodes, outputs);
+    let chain = |outputs: &[u16]| Program::new(0, &shaped::program::xor_chain().nodes, outputs);
     let none = Circuit::new(0, 1, 0, &[]);
     gives("node 13, 16,383", &chain(&[13]), &chain_sizes(), &none);
     let one = Circuit::new(0, 1, 0, &[flip(0)]);
@@ -259,13 +263,11 @@ fn sizes_far_over_the_limit() {
 
 /// A program with the model's circuit, whose gates are too many to be written out here.
 fn gives_the_models(name: &str, program: &Program) {
-    let read = drawn::read(program);
-    let sizes: Vec<u16> = construct::sizes(&read.nodes).iter().map(|size| *size as u16).collect();
-    let circuit = construct::circuit(&read);
+    let circuit = construct::circuit(&drawn::read(program));
     let gates: Vec<_> = circuit.gates.iter().map(fields).collect();
     let [inputs, outputs, work] =
         [circuit.inputs, circuit.outputs, circuit.work].map(|number| number as u16);
-    gives(name, program, &sizes, &Circuit::new(inputs, outputs, work, &gates));
+    gives(name, program, &sizes_of(program), &Circuit::new(inputs, outputs, work, &gates));
 }
 
 fn fields(gate: &model::circuit::Gate) -> agreement::circuit::Gate {
@@ -282,9 +284,7 @@ fn fields(gate: &model::circuit::Gate) -> agreement::circuit::Gate {
 fn the_most_gates() {
     let most = limits::most_gates();
     let gates = vec![cnot(0, 1); 8_000];
-    let sizes: Vec<u16> =
-        construct::sizes(&drawn::read(&most).nodes).iter().map(|size| *size as u16).collect();
-    gives("8,000 gates", &most, &sizes, &Circuit::new(1, 1, 0, &gates));
+    gives("8,000 gates", &most, &sizes_of(&most), &Circuit::new(1, 1, 0, &gates));
     gives_the_models("8,000 gates, 64 outputs", &limits::most_outputs());
     for grant in [0, 1, 1_024] {
         refuses("8,001 gates", &limits::a_gate_too_many(), grant, (11, 8_001));
@@ -411,7 +411,7 @@ fn causes_together() {
 #[test]
 fn shaped_files_refused_by_the_reader() {
     let calls = [(1_024, 4_096, MOST_BYTES), (0, 70_000, 1), (1_025, 2, 0), (u64::MAX, 0, 100)];
-    shaped::each_refused("compile", shaped::all(), |name, file, refusal| {
+    shaped::each_refused("compile", shaped::program::all(), |name, file, refusal| {
         for (grant, entries, length) in calls {
             let case = Case::new(file, grant, entries, length);
             check(name, &case, Err(refusal), &case.sizes, &case.area);
@@ -424,22 +424,18 @@ fn shaped_files_refused_by_the_reader() {
 fn shaped_files_accepted_by_the_reader() {
     let mut random = Random::new(0x7368_6170);
     let mut tally = Tally::new("compile, shaped files");
-    for shaped in shaped::all() {
-        let Ok(head) = shaped.expected else {
-            continue;
-        };
-        let (work, needed) = needs(&shaped.file).unwrap_or((0, NO_GATES));
+    shaped::each_accepted(shaped::program::all(), |_, file, head| {
+        let (work, needed) = needs(file).unwrap_or((0, NO_GATES));
         let nodes = head.count;
         for grant in [work, work.saturating_sub(1), 1_024, 1_025, u64::MAX] {
             for entries in [nodes, nodes + 1, nodes - 1] {
                 for length in [needed, needed + 1, needed - 1, 0] {
                     let (sizes, area) = (random_list(&mut random, entries), random.bytes(length));
-                    let case = Case { file: shaped.file.clone(), grant, sizes, area };
-                    tally.count(&compare(&case));
+                    tally.count(&compare(&Case { file: file.to_vec(), grant, sizes, area }));
                 }
             }
         }
-    }
+    });
     tally.finish(1_000, &[7, 8, 9, 10, 11]);
 }
 
@@ -447,7 +443,7 @@ fn shaped_files_accepted_by_the_reader() {
 #[test]
 fn each_byte_of_the_whole_case_changed() {
     let mut tally = Tally::new("compile, one byte changed");
-    for file in damage::each_byte_changed(&shaped::WHOLE_CASE) {
+    for file in damage::each_byte_changed(&shaped::program::WHOLE_CASE) {
         for (grant, length) in [(2, 68), (1, 68), (2, 67), (1_024, 35)] {
             tally.count(&compare(&Case::new(&file, grant, 3, length)));
         }

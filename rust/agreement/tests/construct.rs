@@ -3,26 +3,14 @@
 
 use agreement::compare::read::{head_of, CIRCUIT};
 use agreement::compare::run::after as run;
+use agreement::compare::{evaluate, undo};
 use agreement::drawn::{self, read, starts};
-use agreement::lent::lent;
 use agreement::program::Program;
 use agreement::random::Random;
 use agreement::seen::Seen;
-use agreement::{hex, limits, shaped, shaped_circuit};
+use agreement::{bits, hex, limits, repository, shaped};
 use model::circuit::{self, Circuit, Gate};
 use model::construct;
-
-/// The circuit file of the case [`shaped::and_of_four`], as the proved code wrote it.
-const WORKED_CASE: &str = concat!(env!("CARGO_MANIFEST_DIR"), "/../../crates/worked_case/stdout");
-
-/// The outputs' values as the archive answers them.
-fn evaluated(file: &[u8], node_count: usize, inputs: &[u8], outputs: usize) -> Vec<u8> {
-    let mut values = vec![0; node_count];
-    (0..outputs as u64)
-        .map(|k| oracle::evaluate(file, &mut values, inputs, k))
-        .map(|value| u8::from(value.expect("a program that was drawn has values")))
-        .collect()
-}
 
 /// Prints the run, and fails unless it met enough of everything.
 fn finish(seen: &Seen, name: &str, at_least: u64) {
@@ -42,11 +30,10 @@ fn holds(random: &mut Random, seen: &mut Seen, program: &Program) {
     let program = read(program);
     let whole = construct::circuit(&program);
     seen.program(&program, whole.gates.len(), whole.work);
-    let nodes = program.nodes.len();
     let runs: Vec<Run> = starts(random, &whole)
         .into_iter()
         .map(|start| Run {
-            values: evaluated(&file, nodes, &start[..whole.inputs], whole.outputs),
+            values: evaluate::outputs(&file, &start[..whole.inputs], whole.outputs),
             start,
         })
         .collect();
@@ -104,7 +91,7 @@ fn at_the_limits() {
     }
     check("4,095 NOTs", limits::deepest(), 4_096, 0, 4_096);
 
-    let mut chain = shaped::xor_chain();
+    let mut chain = shaped::program::xor_chain();
     chain.outputs = vec![14];
     chain.output_count = 1;
     check("the largest size", chain, 1, 0, 16_384);
@@ -160,9 +147,7 @@ fn undone(circuit: &Circuit, gates: &[Gate], target: usize) -> Vec<u8> {
     let file = circuit::write(&Circuit { gates: gates.to_vec(), ..*circuit });
     let mut choices = vec![0; circuit.lines()];
     choices[target] = 1;
-    let (length, mut area) = lent(&vec![0; file.len()], |area| oracle::undo(&file, &choices, area));
-    area.truncate(length.expect("there is room for every gate"));
-    area
+    undo::written(&file, &choices)
 }
 
 /// How many shares reached the bounds that the size gives.
@@ -262,22 +247,23 @@ fn the_examples() {
         let written = circuit::write(&construct::circuit(&read(&program)));
         assert_eq!(written, expected, "{name}");
     };
-    check("the whole case", shaped::whole_case(), shaped_circuit::WHOLE_CASE.to_vec());
-    check("NOR", shaped::nor(), shaped_circuit::nor().bytes());
-    let three = shaped::and_of_three();
-    check("AND of three inputs", three, shaped_circuit::and_of_three().bytes());
+    check("the whole case", shaped::program::whole_case(), shaped::circuit::WHOLE_CASE.to_vec());
+    check("NOR", shaped::program::nor(), shaped::circuit::nor().bytes());
+    let three = shaped::program::and_of_three();
+    check("AND of three inputs", three, shaped::circuit::and_of_three().bytes());
 
-    let four = read(&shaped::and_of_four());
+    let four = read(&shaped::program::and_of_four());
     let built =
         Circuit { gates: construct::build(&four.nodes, 6, 4, 5), ..construct::circuit(&four) };
-    assert_eq!(circuit::write(&built), shaped_circuit::and_of_four_built().bytes());
+    assert_eq!(circuit::write(&built), shaped::circuit::and_of_four_built().bytes());
 }
 
-/// The bytes that the proved code wrote are those of the model, and run as 01 says from every start.
+/// The circuit file of the AND of four inputs, as the proved code wrote it, is the model's, and runs
+/// as 01 says from every start.
 #[test]
 fn the_worked_case() {
-    let file = std::fs::read(WORKED_CASE).expect(WORKED_CASE);
-    let written = circuit::write(&construct::circuit(&read(&shaped::and_of_four())));
+    let file = repository::read("crates/worked_case/stdout");
+    let written = circuit::write(&construct::circuit(&read(&shaped::program::and_of_four())));
     for (at, (byte, expected)) in file.iter().zip(&written).enumerate() {
         assert_eq!(byte, expected, "byte {at}, the proved code, then the model");
     }
@@ -287,7 +273,7 @@ fn the_worked_case() {
     assert_eq!(oracle::read_circuit(&file), Ok(head));
     let mut from_zero = 0;
     for state in 0..1 << 11 {
-        let start: Vec<u8> = (0..11).map(|line| (state >> line & 1) as u8).collect();
+        let start = bits(state, 11);
         let after = run(&file, &start);
         let mut expected = start.clone();
         assert_eq!(model::run::forwards(&file, &mut expected), Ok(()));

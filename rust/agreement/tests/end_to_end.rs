@@ -2,15 +2,15 @@
 //! run, and held to what evaluation answers, after the shares of the first j outputs for every j.
 //! And what the program `end_to_end_case` wrote of such runs, held to the model.
 
-use std::fs;
-
+use agreement::compare::compile::{archive, random_list, Case};
+use agreement::compare::evaluate;
 use agreement::compare::run::after as run;
 use agreement::drawn::{self, read, starts};
 use agreement::lent::lent;
 use agreement::program::Program;
 use agreement::random::Random;
 use agreement::seen::Seen;
-use agreement::{hex, limits, shaped};
+use agreement::{hex, limits, repository, shaped};
 use model::circuit::{Circuit, Gate};
 use model::construct;
 
@@ -18,9 +18,6 @@ use model::construct;
 const GATES_LENGTH: usize = 18;
 const GATES_START: usize = 28;
 const GATE_LENGTH: usize = 8;
-
-/// What the program `end_to_end_case`, which calls `compile_and_run`, wrote.
-const CASE: &str = concat!(env!("CARGO_MANIFEST_DIR"), "/../../crates/end_to_end_case/stdout");
 
 /// A program, the file that the archive compiled it to, and the circuit as it reads back.
 struct Compiled {
@@ -67,15 +64,11 @@ fn compiled(random: &mut Random, program: Program) -> Compiled {
     let needed = GATES_START + GATE_LENGTH * shares[shares.len() - 1];
 
     let grant = random.pick(&[work, work, 1_024]) as u64;
-    let sizes: Vec<u16> = (0..nodes.len()).map(|_| random.number() as u16).collect();
+    let sizes = random_list(random, nodes.len());
     let length = needed + random.pick(&[0, 0, 1, 64]);
     let area = random.bytes(length);
-    let (file, _) = lent(&sizes, |sizes| {
-        let (length, mut area) =
-            lent(&area, |area| oracle::compile(&program.bytes(), grant, sizes, area));
-        area.truncate(length.expect("there is room for every gate and line"));
-        area
-    });
+    let (outcome, _, mut file) = archive(&Case { file: program.bytes(), grant, sizes, area });
+    file.truncate(outcome.expect("there is room for every gate and line"));
     let circuit = model::circuit::read(&file).expect("what was compiled reads back");
     let gates = shares[shares.len() - 1];
     let (inputs, outputs) = (program.inputs.into(), program.outputs.len());
@@ -93,21 +86,6 @@ fn finish(seen: &Seen, written: u64, name: &str) {
     println!("{name}: {written} shares write work lines");
     assert!(seen.values.iter().all(|count| *count > 0), "values of one kind only");
     assert!(written > 0, "no work line was written");
-}
-
-/// The outputs' values on the input lines, as both evaluations answer them.
-fn values(compiled: &Compiled, start: &[u8]) -> Vec<u8> {
-    let file = compiled.program.bytes();
-    let inputs = &start[..compiled.inputs()];
-    let mut list = vec![0; compiled.program.nodes.len()];
-    (0..compiled.circuit.outputs as u64)
-        .map(|k| {
-            let expected = model::evaluate::evaluate(&file, &mut list, inputs, k);
-            let value = oracle::evaluate(&file, &mut list, inputs, k).expect("a good program");
-            assert_eq!(Ok(value), expected, "output {k}, {}", compiled.describe());
-            u8::from(value)
-        })
-        .collect()
 }
 
 /// What 01 says of the lines after the shares of the first j outputs: for every start the inputs,
@@ -129,8 +107,9 @@ fn check_lines(compiled: &Compiled, j: usize, (start, after): (&[u8], &[u8]), va
 /// Runs from one start: the first j shares for every j, and each share from where the ones before
 /// left the lines; then the file itself, and back.
 fn check_start(seen: &mut Seen, compiled: &Compiled, start: &[u8]) {
-    let values = values(compiled, start);
     let outputs = compiled.circuit.outputs;
+    let inputs = &start[..compiled.inputs()];
+    let values = evaluate::outputs(&compiled.program.bytes(), inputs, outputs);
     let mut before = start.to_vec();
     for j in 0..=outputs {
         let after = run(&compiled.part(0, compiled.shares[j]), start);
@@ -184,12 +163,12 @@ fn all_hold(name: &str, seed: u64, programs: &[Program]) -> Seen {
 #[test]
 fn the_examples() {
     let examples = [
-        shaped::whole_case(),
-        shaped::nor(),
-        shaped::and_of_three(),
-        shaped::and_of_four(),
-        shaped::xor_with_itself(),
-        shaped::output_zero(),
+        shaped::program::whole_case(),
+        shaped::program::nor(),
+        shaped::program::and_of_three(),
+        shaped::program::and_of_four(),
+        shaped::program::xor_with_itself(),
+        shaped::program::output_zero(),
     ];
     all_hold("end to end, examples", 0x6578_616d, &examples);
 }
@@ -199,7 +178,7 @@ fn the_examples() {
 #[test]
 fn the_whole_case_from_two_starts() {
     let mut random = Random::new(0x7477_6f73);
-    let whole = compiled(&mut random, shaped::whole_case());
+    let whole = compiled(&mut random, shaped::program::whole_case());
     assert_eq!(run(&whole.file, &[1, 1, 1, 0, 0]), [1, 1, 0, 0, 0]);
     assert_eq!(run(&whole.file, &[1, 1, 1, 1, 0]), [1, 1, 1, 1, 0]);
 }
@@ -213,7 +192,7 @@ fn shown(lines: &[u8]) -> String {
 /// A call on the AND of three inputs as the model has it: the lines before, the answer, the lines
 /// after.
 fn compiled_and_run(start: &[u8]) -> String {
-    let file = shaped::and_of_three().bytes();
+    let file = shaped::program::and_of_three().bytes();
     let (mut sizes, mut area, mut lines) = ([0; 5], [0; 100], start.to_vec());
     let answer = model::compile::compile(&file, 1_024, &mut sizes, &mut area)
         .and_then(|length| model::run::forwards(&area[..length], &mut lines));
@@ -224,7 +203,8 @@ fn compiled_and_run(start: &[u8]) -> String {
     format!("before {}\n{answer}\nafter  {}\n", shown(start), shown(&lines))
 }
 
-/// Starts with the work lines zero and not, and one with a line missing.
+/// What the program `end_to_end_case`, which calls `compile_and_run`, wrote: from starts with the
+/// work lines zero and not, and from one with a line missing.
 #[test]
 fn the_case_of_proved_code() {
     let starts: [&[u8]; 6] = [
@@ -236,7 +216,7 @@ fn the_case_of_proved_code() {
         &[1, 1, 1, 0, 0, 0, 0],
     ];
     let expected: String = starts.into_iter().map(compiled_and_run).collect();
-    let text = fs::read_to_string(CASE).expect(CASE);
+    let text = repository::text("crates/end_to_end_case/stdout");
     assert_eq!(text, expected, "the proved code, then the model");
 }
 

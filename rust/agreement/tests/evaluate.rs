@@ -22,7 +22,7 @@ fn check(
 
 #[test]
 fn the_whole_case_on_all_inputs() {
-    let program = shaped::whole_case();
+    let program = shaped::program::whole_case();
     let check = |inputs: &[u8], expected, values: &[u8]| {
         check("the whole case", (&program, &[9; 3], inputs, 0), expected, values);
     };
@@ -34,7 +34,7 @@ fn the_whole_case_on_all_inputs() {
 
 #[test]
 fn the_other_examples() {
-    let nor = Program::new(2, &[input(0), input(1), not(0), not(1), and(2, 3)], &[4]);
+    let nor = shaped::program::nor();
     check("NOR 0 0", (&nor, &[9; 5], &[0, 0], 0), Ok(true), &[0, 0, 1, 1, 1]);
     check("NOR 0 1", (&nor, &[9; 5], &[0, 1], 0), Ok(false), &[0, 1, 1, 0, 0]);
     check("NOR 1 0", (&nor, &[9; 5], &[1, 0], 0), Ok(false), &[1, 0, 0, 1, 0]);
@@ -45,18 +45,18 @@ fn the_other_examples() {
     check("AND 1 1 0", (&three, &[9; 5], &[1, 1, 0], 0), Ok(false), &[1, 1, 0, 1, 0]);
     check("AND 0 1 1", (&three, &[9; 5], &[0, 1, 1], 0), Ok(false), &[0, 1, 1, 0, 0]);
 
-    let itself = Program::new(1, &[input(0), xor(0, 0)], &[1]);
+    let itself = shaped::program::xor_with_itself();
     check("XOR with itself, 0", (&itself, &[9; 2], &[0], 0), Ok(false), &[0, 0]);
     check("XOR with itself, 1", (&itself, &[9; 2], &[1], 0), Ok(false), &[1, 0]);
 
-    let zero = Program::new(0, &[ZERO], &[0]);
+    let zero = shaped::program::output_zero();
     check("output ZERO", (&zero, &[9], &[], 0), Ok(false), &[0]);
 }
 
 /// The unfolded sizes are over the compiler's limit from node 15 on; values have no such limit.
 #[test]
 fn the_xor_chain() {
-    let chain = shaped::xor_chain();
+    let chain = shaped::program::xor_chain();
     let after = [0, 0, 0, 0, 0, 0, 0, 0, 0, 0, 0, 0, 0, 0, 1, 0];
     check("node 13", (&chain, &[9; 16], &[], 0), Ok(false), &after);
     check("NOT of node 13", (&chain, &[9; 16], &[], 1), Ok(true), &after);
@@ -99,7 +99,7 @@ fn truth_tables() {
 
 #[test]
 fn value_lists() {
-    let program = shaped::whole_case();
+    let program = shaped::program::whole_case();
     let check = |name: &str, values: &[u8], expected, after: &[u8]| {
         check(name, (&program, values, &[1, 0], 0), expected, after);
     };
@@ -120,7 +120,7 @@ fn value_lists() {
 
 #[test]
 fn input_bytes() {
-    let program = shaped::whole_case();
+    let program = shaped::program::whole_case();
     let refused = |name, inputs: &[u8]| {
         check(name, (&program, &[9; 4], inputs, 0), Err((14, 0)), &[9; 4]);
     };
@@ -157,7 +157,7 @@ fn input_bytes() {
 
 #[test]
 fn output_numbers() {
-    let one = shaped::whole_case();
+    let one = shaped::program::whole_case();
     let check_one = |output, expected, after: &[u8]| {
         let name = format!("m 1, output {output}");
         check(&name, (&one, &[9; 3], &[1, 1], output), expected, after);
@@ -189,7 +189,7 @@ fn output_numbers() {
 
 #[test]
 fn causes_together() {
-    let good = shaped::whole_case();
+    let good = shaped::program::whole_case();
     let bad_output = Program::new(2, &[input(0), input(1), and(0, 1)], &[2, 3]);
     let check = |name, (program, values, inputs, output): (&Program, &[u8], &[u8], u64), number| {
         check(name, (program, values, inputs, output), Err(number), values);
@@ -207,7 +207,7 @@ fn causes_together() {
 /// The refusals of reading come through as they are, whatever else is wrong.
 #[test]
 fn shaped_files_refused_by_the_reader() {
-    shaped::each_refused("evaluate", shaped::all(), |name, file, refusal| {
+    shaped::each_refused("evaluate", shaped::program::all(), |name, file, refusal| {
         for (length, inputs, output) in [(70_000, vec![1, 0], 0), (0, vec![2], u64::MAX)] {
             let case = Case { file: file.to_vec(), values: vec![9; length], inputs, output };
             let expected = (Err(refusal), case.values.clone());
@@ -221,24 +221,16 @@ fn shaped_files_refused_by_the_reader() {
 #[test]
 fn shaped_files_accepted_by_the_reader() {
     let mut tally = Tally::new("evaluate, shaped files");
-    for shaped in shaped::all() {
-        let Ok(head) = shaped.expected else {
-            continue;
-        };
+    shaped::each_accepted(shaped::program::all(), |name, file, head| {
         for output in [0, head.outputs as u64 - 1] {
             for bit in [0, 1] {
-                let case = Case {
-                    file: shaped.file.clone(),
-                    values: vec![9; head.count + 1],
-                    inputs: vec![bit; head.inputs],
-                    output,
-                };
-                let outcome = compare(&case);
-                assert!(outcome.is_ok(), "{}", shaped.name);
+                let (values, inputs) = (vec![9; head.count + 1], vec![bit; head.inputs]);
+                let outcome = compare(&Case { file: file.to_vec(), values, inputs, output });
+                assert!(outcome.is_ok(), "{name}");
                 tally.count(&outcome);
             }
         }
-    }
+    });
     tally.finish(100, &[]);
 }
 

@@ -1,13 +1,12 @@
 //! The functions of `examples/functions`: each program file is that of its table, each listing that
 //! of its program file, and each computes on bits what its name says on numbers.
 
-use std::collections::BTreeSet;
-use std::fs;
-use std::path::PathBuf;
-
+use agreement::compare::compile::written;
+use agreement::compare::evaluate;
 use agreement::compare::run::after;
-use agreement::listing_cases::{repository, GRANT};
+use agreement::listing_cases::GRANT;
 use agreement::random::Random;
+use agreement::{bits, repository};
 use model::listing::{listing, text};
 use table::functions::{adder, less};
 
@@ -30,26 +29,13 @@ const FUNCTIONS: [Function; 7] = [
     Function { name: "less8", inputs: 16, outputs: 1, value: |x| u64::from((x & 0xff) < (x >> 8)) },
 ];
 
-fn folder() -> PathBuf {
-    repository().join("examples/functions")
-}
-
 fn file(name: &str, extension: &str) -> Vec<u8> {
-    let path = folder().join(name).with_extension(extension);
-    fs::read(&path).unwrap_or_else(|error| panic!("{}: {error}", path.display()))
-}
-
-/// The lowest bits of a number, a byte each, the lowest first.
-fn bits(number: u64, count: usize) -> Vec<u8> {
-    (0..count).map(|at| (number >> at & 1) as u8).collect()
+    repository::read(format!("examples/functions/{name}.{extension}"))
 }
 
 /// The circuit file that the archive compiles a program file to.
 fn compiled(program: &[u8]) -> Vec<u8> {
-    let (mut sizes, mut area) = ([0; 4_096], vec![0; 64_028]);
-    let length = oracle::compile(program, GRANT, &mut sizes, &mut area).expect("it compiles");
-    area.truncate(length);
-    area
+    written(program, GRANT).expect("it compiles")
 }
 
 /// Inputs to try: all of them where they are few, otherwise the ends and some at random.
@@ -72,15 +58,10 @@ fn inputs_to_try(random: &mut Random, count: usize) -> Vec<u64> {
 
 #[test]
 fn the_folder_holds_these_functions() {
-    let found: BTreeSet<String> = fs::read_dir(folder())
-        .expect("the folder of the functions")
-        .map(|entry| entry.expect("a folder that can be read").file_name())
-        .map(|name| name.into_string().expect("a name in letters"))
-        .collect();
     let files = |function: &Function| {
         ["table", "program", "listing"].map(|extension| format!("{}.{extension}", function.name))
     };
-    assert_eq!(found, FUNCTIONS.iter().flat_map(files).collect());
+    assert_eq!(repository::names("examples/functions"), FUNCTIONS.iter().flat_map(files).collect());
 }
 
 #[test]
@@ -131,19 +112,11 @@ fn computes(random: &mut Random, function: &Function) {
         let expected = bits((function.value)(*number), function.outputs);
         let inputs = bits(*number, function.inputs);
         let name = format!("{} of {number:#x}", function.name);
-        assert_eq!(evaluated(&program, &inputs, function.outputs), expected, "{name}");
+        let values = evaluate::outputs(&program, &inputs, function.outputs);
+        assert_eq!(values, expected, "{name}");
         runs(&name, &circuit, &inputs, &expected, &random.bits(function.outputs));
     }
     println!("{}: {} inputs", function.name, numbers.len());
-}
-
-/// The outputs as the archive evaluates them.
-fn evaluated(program: &[u8], inputs: &[u8], outputs: usize) -> Vec<u8> {
-    let mut values = [9; 4_096];
-    (0..outputs as u64)
-        .map(|k| oracle::evaluate(program, &mut values, inputs, k).expect("it has a value"))
-        .map(u8::from)
-        .collect()
 }
 
 fn runs(name: &str, circuit: &[u8], inputs: &[u8], expected: &[u8], targets: &[u8]) {

@@ -2,10 +2,10 @@
 //! is the model's, and what the archive compiles gives the same text.
 
 use std::collections::BTreeSet;
-use std::fs;
 
+use agreement::compare::compile::written;
 use agreement::listing_cases::{self, Case, GRANT, MOST_INPUT};
-use agreement::{hex, shaped};
+use agreement::{hex, repository, shaped};
 use model::listing::{listing, text};
 
 /// The six lines of the whole case, as 01 prints them.
@@ -14,8 +14,7 @@ const WHOLE_CASE: &str = "lines 2 1 2 gates 5\nC 0 3\nC 1 4\nT 3 4 2\nC 1 4\nC 0
 #[test]
 fn every_file_is_as_it_is_made() {
     for (name, content) in listing_cases::files() {
-        let path = listing_cases::repository().join(&name);
-        let file = fs::read(&path).unwrap_or_else(|error| panic!("{}: {error}", path.display()));
+        let file = repository::read(&name);
         let lengths = (file.len(), content.len());
         assert!(file == content, "{}: not as it is made, {lengths:?} bytes", name.display());
     }
@@ -24,12 +23,7 @@ fn every_file_is_as_it_is_made() {
 /// No case is missing, and no file is there that is no case.
 #[test]
 fn the_data_folder_holds_the_cases_alone() {
-    let folder = listing_cases::repository().join("crates/listing_cases/data");
-    let found: BTreeSet<String> = fs::read_dir(&folder)
-        .unwrap_or_else(|error| panic!("{}: {error}", folder.display()))
-        .map(|entry| entry.expect("a folder that can be read").file_name())
-        .map(|name| name.into_string().expect("a name in letters"))
-        .collect();
+    let found = repository::names("crates/listing_cases/data");
     let cases = listing_cases::all();
     let names: BTreeSet<String> = cases.iter().map(|case| case.name.to_string()).collect();
     assert_eq!(names.len(), cases.len(), "each name is given once");
@@ -65,20 +59,15 @@ fn each_case_starts_as_01_says() {
 
 #[test]
 fn the_whole_case() {
-    assert_eq!(listing(&shaped::WHOLE_CASE, GRANT), WHOLE_CASE);
-    let folder = listing_cases::repository().join("crates/listing");
-    let stdin = fs::read(folder.join("stdin")).expect("the whole case as a file");
-    assert_eq!(stdin, shaped::WHOLE_CASE);
-    let stdout = fs::read_to_string(folder.join("stdout")).expect("its text as a file");
-    assert_eq!(stdout, WHOLE_CASE);
+    assert_eq!(listing(&shaped::program::WHOLE_CASE, GRANT), WHOLE_CASE);
+    assert_eq!(repository::read("crates/listing/stdin"), shaped::program::WHOLE_CASE);
+    assert_eq!(repository::text("crates/listing/stdout"), WHOLE_CASE);
 }
 
 /// The gates of 01's examples, as the stdout of all cases holds them.
 #[test]
 fn the_other_examples() {
-    let stdout =
-        fs::read_to_string(listing_cases::repository().join("crates/listing_cases/stdout"))
-            .expect("the text of all cases as a file");
+    let stdout = repository::text("crates/listing_cases/stdout");
     assert!(stdout.starts_with("refused 1 0\n"), "empty input comes first");
     for text in [
         WHOLE_CASE,
@@ -93,12 +82,10 @@ fn the_other_examples() {
 /// The text of what the archive compiles from a case.
 fn archive(case: &Case) -> String {
     let file = &case.file[..case.file.len().min(MOST_INPUT)];
-    let (mut sizes, mut area) = ([0; 4_096], vec![0; 64_028]);
-    let length = match oracle::compile(file, GRANT, &mut sizes, &mut area) {
-        Ok(length) => length,
-        Err(refusal) => return format!("{refusal}\n"),
-    };
-    text(&model::circuit::read(&area[..length]).expect("what was compiled reads back"))
+    match written(file, GRANT) {
+        Ok(circuit) => text(&model::circuit::read(&circuit).expect("what was compiled reads back")),
+        Err((number, place)) => format!("refused {number} {place}\n"),
+    }
 }
 
 #[test]

@@ -6,7 +6,7 @@ use agreement::damage::each_byte_changed;
 use agreement::random::Random;
 use agreement::shaped::Shaped;
 use agreement::tally::Tally;
-use agreement::{hex, program, shaped, shaped_circuit};
+use agreement::{hex, program, shaped};
 
 /// Shaped files give what is written beside them.
 fn gives_what_is_written(reader: &Reader, files: Vec<Shaped>) {
@@ -19,12 +19,12 @@ fn gives_what_is_written(reader: &Reader, files: Vec<Shaped>) {
 
 #[test]
 fn shaped_programs() {
-    gives_what_is_written(&PROGRAM, shaped::all());
+    gives_what_is_written(&PROGRAM, shaped::program::all());
 }
 
 #[test]
 fn shaped_circuits() {
-    gives_what_is_written(&CIRCUIT, shaped_circuit::all());
+    gives_what_is_written(&CIRCUIT, shaped::circuit::all());
 }
 
 /// Every one-byte change and every truncation of a small file: nothing is left to chance here.
@@ -39,13 +39,13 @@ fn each_change(reader: &Reader, file: &[u8], refusals: &[usize]) {
 
 #[test]
 fn each_byte_of_a_program_changed() {
-    each_change(&PROGRAM, &shaped::WHOLE_CASE, &[1, 2, 3, 4, 5, 6]);
+    each_change(&PROGRAM, &shaped::program::WHOLE_CASE, &[1, 2, 3, 4, 5, 6]);
 }
 
 /// No such change moves the border of the bodies alone, so none gives cause 3.
 #[test]
 fn each_byte_of_a_circuit_changed() {
-    each_change(&CIRCUIT, &shaped_circuit::WHOLE_CASE, &[1, 2, 4, 12]);
+    each_change(&CIRCUIT, &shaped::circuit::WHOLE_CASE, &[1, 2, 4, 12]);
 }
 
 /// Good files, which the model has to accept, and damaged ones.

@@ -6,7 +6,7 @@ use agreement::compare::run::Direction::{self, Backwards, Forwards};
 use agreement::compare::run::{archive, compare, drawn, model};
 use agreement::random::Random;
 use agreement::tally::Tally;
-use agreement::{damage, hex, shaped, shaped_circuit};
+use agreement::{damage, hex, shaped};
 
 /// A shaped run, with the lines given and those expected.
 fn gives(name: &str, direction: Direction, circuit: &Circuit, lines: &[u8], after: &[u8]) {
@@ -30,7 +30,7 @@ fn refuses(name: &str, file: &[u8], lines: &[u8], refusal: (u64, u64)) {
 /// The whole case is the same from both ends, so both directions give the same.
 #[test]
 fn the_whole_case_on_all_inputs() {
-    let circuit = shaped_circuit::whole_case();
+    let circuit = shaped::circuit::whole_case();
     let check = |lines: [u8; 5], after: [u8; 5]| {
         for direction in [Forwards, Backwards] {
             gives("the whole case", direction, &circuit, &lines, &after);
@@ -53,18 +53,18 @@ fn the_whole_case_on_all_inputs() {
 
 #[test]
 fn the_other_examples() {
-    let nor = shaped_circuit::nor();
+    let nor = shaped::circuit::nor();
     gives("NOR 0 0", Forwards, &nor, &[0, 0, 0, 0, 0], &[0, 0, 1, 0, 0]);
     gives("NOR 0 1", Forwards, &nor, &[0, 1, 0, 0, 0], &[0, 1, 0, 0, 0]);
     gives("NOR 1 0", Forwards, &nor, &[1, 0, 1, 0, 0], &[1, 0, 1, 0, 0]);
     gives("NOR 1 1", Forwards, &nor, &[1, 1, 1, 0, 0], &[1, 1, 1, 0, 0]);
 
-    let three = shaped_circuit::and_of_three();
+    let three = shaped::circuit::and_of_three();
     gives("AND 1 1 1", Forwards, &three, &[1, 1, 1, 0, 0, 0, 0, 0], &[1, 1, 1, 1, 0, 0, 0, 0]);
     gives("AND 1 1 0", Forwards, &three, &[1, 1, 0, 0, 0, 0, 0, 0], &[1, 1, 0, 0, 0, 0, 0, 0]);
     gives("AND 0 1 1", Forwards, &three, &[0, 1, 1, 1, 0, 0, 0, 0], &[0, 1, 1, 1, 0, 0, 0, 0]);
 
-    let four = shaped_circuit::and_of_four_built();
+    let four = shaped::circuit::and_of_four_built();
     let built = [1, 1, 1, 1, 1, 1, 1, 1, 1, 1, 1];
     let inputs = [1, 1, 1, 1, 0, 0, 0, 0, 0, 0, 0];
     gives("AND 1 1 1 1, built", Forwards, &four, &inputs, &built);
@@ -113,11 +113,11 @@ fn every_kind_in_every_place() {
 
 #[test]
 fn gates_run_in_order() {
-    let three = shaped_circuit::chain(1, 1, 1);
+    let three = shaped::circuit::chain(1, 1, 1);
     gives("a chain of 3", Forwards, &three, &[1, 0, 0], &[1, 1, 1]);
     gives("a chain of 3", Backwards, &three, &[1, 0, 0], &[1, 1, 0]);
 
-    let long = shaped_circuit::chain(64, 64, 1024);
+    let long = shaped::circuit::chain(64, 64, 1024);
     let mut start = vec![0; 1152];
     start[0] = 1;
     gives("a chain of 1152", Forwards, &long, &start, &[1; 1152]);
@@ -131,7 +131,7 @@ fn gates_run_in_order() {
 #[test]
 fn all_of_8000_gates_run() {
     for (count, after) in [(0, 0), (1, 1), (256, 0), (7999, 1), (8000, 0)] {
-        let circuit = shaped_circuit::nots(count);
+        let circuit = shaped::circuit::nots(count);
         gives(&format!("{count} gates"), Forwards, &circuit, &[0], &[after]);
         gives(&format!("{count} gates"), Backwards, &circuit, &[0], &[after]);
     }
@@ -145,7 +145,7 @@ fn all_of_8000_gates_run() {
 
 #[test]
 fn line_bytes_and_causes_together() {
-    for bad in shaped_circuit::bad_calls() {
+    for bad in shaped::bad_calls::all() {
         refuses(&bad.name, &bad.file, &bad.bits, bad.refusal);
     }
     let bad_gate = Circuit::new(2, 1, 2, &[cnot(0, 3), gate(4, 0, 0, 0)]);
@@ -156,7 +156,7 @@ fn line_bytes_and_causes_together() {
 /// The refusals of reading come through as they are, whatever the lines.
 #[test]
 fn shaped_files_refused_by_the_reader() {
-    shaped::each_refused("run", shaped_circuit::all(), |name, file, refusal| {
+    shaped::each_refused("run", shaped::circuit::all(), |name, file, refusal| {
         for lines in [vec![1, 0, 1, 0, 1], vec![1; 1152], vec![2], vec![]] {
             refuses(name, file, &lines, refusal);
         }
@@ -168,20 +168,17 @@ fn shaped_files_refused_by_the_reader() {
 fn shaped_files_accepted_by_the_reader() {
     let mut random = Random::new(0x6c69_6e65);
     let mut tally = Tally::new("run, shaped files");
-    for shaped in shaped_circuit::all() {
-        if shaped.expected.is_err() {
-            continue;
-        }
-        let count = model::circuit::read(&shaped.file).expect(&shaped.name).lines();
+    shaped::each_accepted(shaped::circuit::all(), |name, file, head| {
+        let count = head.lines();
         for lines in [vec![0; count], vec![1; count], random.bits(count), random.bits(count)] {
             for direction in [Forwards, Backwards] {
-                let (outcome, _) = compare(direction, &shaped.file, &lines);
-                assert!(outcome.is_ok(), "{}", shaped.name);
+                let (outcome, _) = compare(direction, file, &lines);
+                assert!(outcome.is_ok(), "{name}");
                 tally.count(&outcome);
             }
-            refuses(&shaped.name, &shaped.file, &lines[1..], (13, 0));
+            refuses(name, file, &lines[1..], (13, 0));
         }
-    }
+    });
     tally.finish(400, &[]);
 }
 
@@ -189,7 +186,7 @@ fn shaped_files_accepted_by_the_reader() {
 #[test]
 fn each_byte_of_the_whole_case_changed() {
     let mut tally = Tally::new("run, one byte changed");
-    for file in damage::each_byte_changed(&shaped_circuit::WHOLE_CASE) {
+    for file in damage::each_byte_changed(&shaped::circuit::WHOLE_CASE) {
         // As many lines as the changed file has, where it is one.
         let count = model::circuit::read(&file).map_or(5, |circuit| circuit.lines());
         let mut lines = vec![1; count];

@@ -2,11 +2,11 @@
 
 use agreement::circuit::{self, cnot, gate, not, toffoli, Circuit, Gate};
 use agreement::compare::run::after;
-use agreement::compare::undo::{archive, compare, drawn, model, Case};
+use agreement::compare::undo::{archive, compare, drawn, model, written as undone, Case};
 use agreement::compare::NO_GATES;
 use agreement::random::Random;
 use agreement::tally::Tally;
-use agreement::{damage, hex, shaped, shaped_circuit, Outcome};
+use agreement::{damage, hex, shaped, Outcome};
 
 /// A shaped case on both sides, with the area expected.
 fn check(name: &str, case: &Case, expected: Outcome<usize>, area: &[u8]) {
@@ -51,7 +51,7 @@ fn refuses(name: &str, file: &[u8], choices: &[u8], refusal: (u64, u64)) {
 
 #[test]
 fn the_whole_case() {
-    let circuit = shaped_circuit::whole_case();
+    let circuit = shaped::circuit::whole_case();
     let (first, second, toffoli) = (cnot(0, 3), cnot(1, 4), toffoli(3, 4, 2));
     let all = [first, second, toffoli, second, first];
     leaves("none chosen", &circuit, &[], &all);
@@ -68,12 +68,12 @@ fn the_whole_case() {
 /// The second half of a share is its first half undone except on the target.
 #[test]
 fn a_share_is_cleaned_by_undoing() {
-    let whole = shaped_circuit::and_of_three();
+    let whole = shaped::circuit::and_of_three();
     let (build, clean) = whole.gates.split_at(5);
     let built = Circuit::new(3, 1, 4, build);
     leaves("AND of three, target chosen", &built, &[3], clean);
 
-    let four = shaped_circuit::and_of_four_built();
+    let four = shaped::circuit::and_of_four_built();
     let clean =
         [cnot(3, 10), toffoli(6, 9, 5), cnot(2, 9), toffoli(7, 8, 6), cnot(1, 8), cnot(0, 7)];
     leaves("AND of four, target chosen", &four, &[4], &clean);
@@ -108,7 +108,7 @@ fn no_gates() {
 #[test]
 fn every_kind_in_every_place() {
     for (n, m, w) in [(1, 1, 1), (0, 5, 0), (0, 1, 256), (64, 64, 1024)] {
-        let circuit = shaped_circuit::every_place(n, m, w);
+        let circuit = shaped::circuit::every_place(n, m, w);
         let last = circuit.lines() - 1;
         for chosen in [0, last / 2, last] {
             let kept = |gate: &&Gate| usize::from(gate.target) != chosen;
@@ -122,7 +122,7 @@ fn every_kind_in_every_place() {
 /// In a chain of 1,152 lines, line i is the target of gate i - 1 and of no other.
 #[test]
 fn each_of_1152_lines_chosen() {
-    let circuit = shaped_circuit::chain(64, 64, 1024);
+    let circuit = shaped::circuit::chain(64, 64, 1024);
     let (file, lines) = (circuit.bytes(), circuit.lines());
     let reversed: Vec<Gate> = circuit.gates.iter().rev().copied().collect();
     for chosen in 0..lines {
@@ -155,7 +155,7 @@ fn all_of_8000_gates() {
 /// 13 comes before 11: refuses lends areas that are long enough and areas that are not.
 #[test]
 fn choice_bytes_and_causes_together() {
-    for bad in shaped_circuit::bad_calls() {
+    for bad in shaped::bad_calls::all() {
         refuses(&bad.name, &bad.file, &bad.bits, bad.refusal);
     }
     let bad_gate = Circuit::new(2, 1, 2, &[cnot(0, 3), gate(4, 0, 0, 0)]);
@@ -168,7 +168,7 @@ fn choice_bytes_and_causes_together() {
 /// The refusals of reading come through as they are, whatever else is wrong.
 #[test]
 fn shaped_files_refused_by_the_reader() {
-    shaped::each_refused("undo", shaped_circuit::all(), |name, file, refusal| {
+    shaped::each_refused("undo", shaped::circuit::all(), |name, file, refusal| {
         for choices in [vec![0; 5], vec![1; 1152], vec![2], vec![]] {
             refuses(name, file, &choices, refusal);
         }
@@ -180,20 +180,16 @@ fn shaped_files_refused_by_the_reader() {
 fn shaped_files_accepted_by_the_reader() {
     let mut random = Random::new(0x7570_6c6f);
     let mut tally = Tally::new("undo, shaped files");
-    for shaped in shaped_circuit::all() {
-        if shaped.expected.is_err() {
-            continue;
-        }
-        let file = shaped.file;
-        let lines = model::circuit::read(&file).expect(&shaped.name).lines();
+    shaped::each_accepted(shaped::circuit::all(), |_, file, head| {
+        let lines = head.lines();
         for choices in [vec![0; lines], vec![1; lines], random.bits(lines)] {
             for length in [file.len() + 9, file.len(), file.len() - 1, NO_GATES, NO_GATES - 1] {
                 let area = random.bytes(length);
-                let case = Case { file: file.clone(), choices: choices.clone(), area };
+                let case = Case { file: file.to_vec(), choices: choices.clone(), area };
                 tally.count(&compare(&case));
             }
         }
-    }
+    });
     tally.finish(500, &[11]);
 }
 
@@ -201,7 +197,7 @@ fn shaped_files_accepted_by_the_reader() {
 #[test]
 fn each_byte_of_the_whole_case_changed() {
     let mut tally = Tally::new("undo, one byte changed");
-    for file in damage::each_byte_changed(&shaped_circuit::WHOLE_CASE) {
+    for file in damage::each_byte_changed(&shaped::circuit::WHOLE_CASE) {
         // As many choices as the changed file has lines, where it is one.
         let lines = model::circuit::read(&file).map_or(5, |circuit| circuit.lines());
         let mut choices = vec![0; lines];
@@ -214,18 +210,10 @@ fn each_byte_of_the_whole_case_changed() {
     tally.finish(68 * 256 * 3, &[1, 2, 4, 11, 12, 13]);
 }
 
-/// The archive's undo of a file, in an area as long as the file, which is enough.
-fn undone(file: &[u8], choices: &[u8]) -> Vec<u8> {
-    let mut area = vec![9; file.len()];
-    let length = oracle::undo(file, choices, &mut area).expect("a good file");
-    area.truncate(length);
-    area
-}
-
 /// 01's slip: undone in forward order, line 5 would stay 1.
 #[test]
 fn the_work_lines_of_four_inputs_are_cleaned() {
-    let file = shaped_circuit::and_of_four_built().bytes();
+    let file = shaped::circuit::and_of_four_built().bytes();
     let built = after(&file, &[1, 1, 1, 1, 0, 0, 0, 0, 0, 0, 0]);
     assert_eq!(built, [1; 11]);
     let cleaned = after(&undone(&file, &[0, 0, 0, 0, 1, 0, 0, 0, 0, 0, 0]), &built);

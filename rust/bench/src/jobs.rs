@@ -2,30 +2,28 @@
 
 use std::hint::black_box;
 
-use agreement::circuit::{cnot, not, toffoli, Circuit};
-use agreement::compare::compile::needs;
-use agreement::compare::NO_GATES;
-use agreement::program::{and, input, Node, Program};
+use agreement::compare::{MOST_BYTES, MOST_NODES};
 use agreement::random::Random;
-use agreement::{limits, program};
 
+use crate::files::{self, INPUTS, LINES};
 use crate::idiomatic::Refused;
 use crate::sides::{self, Side, ARCHIVE, RUST};
 
 use Service::{Compile, Evaluate, ReadCircuit, ReadProgram, RunBackwards, RunForwards, Undo};
 
-const MOST_NODES: usize = 4096;
-const MOST_BYTES: usize = 64_028;
+/// How many files a job of the first table has.
+pub const FILES: usize = 32;
+
 const MOST_WORK_LINES: u64 = 1024;
 
 /// What is done to the lent areas before a call.
 const NONE: &str = "none lent";
-const KEPT: &str = "not cleared: each call writes the same";
+const KEPT: &str = "not cleared";
 const RESET: &str = "lines reset to the start before each call, within its time";
 const CLEARED: &str = "not cleared before; the call clears the area";
 
-/// Calls of one side, one after the other.
-pub type Calls<'a> = Box<dyn FnMut() + 'a>;
+/// A round: one side's calls with each file of a job in turn.
+pub type Round<'a> = Box<dyn FnMut() + 'a>;
 
 /// A service, and files for it, which are taken in turn.
 pub struct Job {
@@ -79,6 +77,16 @@ impl Service {
     fn takes_program(self) -> bool {
         matches!(self, ReadProgram | Evaluate | Compile)
     }
+
+    /// Inputs, lines, or choices of about a third of the lines.
+    fn bits(self, random: &mut Random) -> Vec<u8> {
+        match self {
+            ReadProgram | Compile | ReadCircuit => vec![],
+            Evaluate => random.bits(INPUTS),
+            RunForwards | RunBackwards => random.bits(LINES),
+            Undo => (0..LINES).map(|_| u8::from(random.once_in(3))).collect(),
+        }
+    }
 }
 
 /// A file, and bits for its inputs, lines or choices.
@@ -88,7 +96,20 @@ struct Given {
 }
 
 impl Job {
-    /// So many calls as there are files.
+    /// A service on so many files, each drawn with bits for it, that give results.
+    fn new(
+        random: &mut Random,
+        service: Service,
+        name: &'static str,
+        count: usize,
+        draw: impl Fn(&mut Random) -> Vec<u8>,
+    ) -> Job {
+        let given = |_| Given { file: draw(random), bits: service.bits(random) };
+        let files = (0..count).map(given).collect();
+        Job { service, name, buffers: service.buffers(), rounds: 201, accepted: true, files }
+    }
+
+    /// How many calls a round has: one with each file.
     pub fn calls(&self) -> u32 {
         self.files.len() as u32
     }
@@ -104,8 +125,8 @@ impl Job {
         }
     }
 
-    /// One side's calls.
-    pub fn on<'a>(&'a self, side: &'a Side) -> Calls<'a> {
+    /// The rounds of one side.
+    pub fn on<'a>(&'a self, side: &'a Side) -> Round<'a> {
         let mut areas = Areas::new();
         Box::new(move || {
             for given in &self.files {
@@ -163,95 +184,37 @@ fn seen<T>(answer: Result<T, Refused>) -> bool {
     black_box(answer).is_ok()
 }
 
-/// The jobs of the first table: every service on the largest files.
+/// The jobs of the first table: every service on files as large as they can be.
 pub fn largest(random: &mut Random) -> Vec<Job> {
-    let one = |service: Service, name: &'static str, file: Vec<u8>, bits: Vec<u8>| Job {
-        service,
-        name,
-        buffers: service.buffers(),
-        rounds: 301,
-        accepted: true,
-        files: vec![Given { file, bits }],
+    let mut job = |service, name, draw: fn(&mut Random) -> Vec<u8>| {
+        Job::new(random, service, name, FILES, draw)
     };
-    let compile =
-        |name: &'static str, program: Program| one(Compile, name, program.bytes(), vec![]);
-    let nodes = program::of_size(random, 64, 64, MOST_NODES).bytes();
-    let inputs = random.bits(64);
-    let circuit = random_circuit(random, 8000);
-    let (start, choices) = (random.bits(1152), a_third(random));
-    let all_kinds = "4,096 nodes of all kinds";
+    let nodes = "4,096 nodes of all kinds";
     let gates = "8,000 gates on 1,152 lines";
-    let chosen = "the same, a third of the lines chosen";
-    let mut refused = compile("refused 11, 64 outputs of size 16,384", limits::largest_outputs(64));
-    refused.accepted = false;
-    refused.buffers = CLEARED;
-    refused.rounds = 31;
+    let circuit = |random: &mut Random| files::circuit(random, 8000);
+    let and_trees = |random: &mut Random| files::and_trees(random, 8000);
+    let refused = Job {
+        buffers: CLEARED,
+        rounds: 15,
+        accepted: false,
+        ..job(Compile, "refused 11, 64 outputs of size 16,384", files::largest_outputs)
+    };
     vec![
-        one(ReadProgram, all_kinds, nodes.clone(), vec![]),
-        one(Evaluate, all_kinds, nodes, inputs),
-        compile("4,096 nodes, 64 outputs of 2 gates", limits::longest_file()),
-        compile("8,000 gates, 64 outputs with ANDs", limits::most_outputs()),
-        compile("8,000 gates, one output of XORs", limits::most_gates()),
+        job(ReadProgram, nodes, files::of_all_kinds),
+        job(Evaluate, nodes, files::of_all_kinds),
+        job(Compile, "4,096 nodes, 64 outputs of 2 gates", files::small_outputs),
+        job(Compile, "8,000 gates, 64 outputs of ANDs", and_trees),
+        job(Compile, "8,000 gates, one output of XORs", files::xor_tree),
         refused,
-        one(ReadCircuit, gates, circuit.clone(), vec![]),
-        one(RunForwards, gates, circuit.clone(), start.clone()),
-        one(RunBackwards, gates, circuit.clone(), start),
-        one(Undo, chosen, circuit, choices),
+        job(ReadCircuit, gates, circuit),
+        job(RunForwards, gates, circuit),
+        job(RunBackwards, gates, circuit),
+        job(Undo, "the same, a third of the lines chosen", circuit),
     ]
 }
 
-/// A service on files of so many gates. There are as many files as make 64,000 gates, so that the
-/// processor cannot learn the branches of short ones by heart.
+/// A service on files of so many gates, as many as make 64,000 gates.
 pub fn of_gates(random: &mut Random, service: Service, gates: usize) -> Job {
-    let mut files = Vec::new();
-    for _ in 0..64_000 / gates {
-        files.push(if service.takes_program() {
-            Given { file: chains(random, gates), bits: random.bits(64) }
-        } else {
-            let bits = if matches!(service, Undo) { a_third(random) } else { random.bits(1152) };
-            Given { file: random_circuit(random, gates), bits }
-        });
-    }
-    let name = "by gates";
-    Job { service, name, buffers: service.buffers(), rounds: 101, accepted: true, files }
-}
-
-/// Choices of about a third of the lines.
-fn a_third(random: &mut Random) -> Vec<u8> {
-    (0..1152).map(|_| u8::from(random.once_in(3))).collect()
-}
-
-/// So many random gates, of all kinds, on the most lines that a circuit can have.
-fn random_circuit(random: &mut Random, gates: usize) -> Vec<u8> {
-    let mut circuit = Circuit::new(64, 64, 1024, &[]);
-    let lines = circuit.lines();
-    while circuit.gates.len() < gates {
-        let [a, b, t] = [(); 3].map(|()| random.below(lines) as u16);
-        if a != b && a != t && b != t {
-            circuit.gates.push(random.pick(&[not(t), cnot(a, t), toffoli(a, b, t)]));
-        }
-    }
-    circuit.bytes()
-}
-
-/// A program of so many gates: an output for each 125 of them, with 31 ANDs of its own in a chain.
-fn chains(random: &mut Random, gates: usize) -> Vec<u8> {
-    let mut nodes: Vec<Node> = (0..64).map(input).collect();
-    let mut outputs = Vec::new();
-    for _ in 0..gates / 125 {
-        add_chain(random, &mut nodes);
-        outputs.push(nodes.len() as u16 - 1);
-    }
-    let file = Program::new(64, &nodes, &outputs).bytes();
-    let bytes = needs(&file).map(|(_, bytes)| bytes);
-    assert_eq!(bytes, Some(NO_GATES + 8 * gates), "a program of {gates} gates");
-    file
-}
-
-fn add_chain(random: &mut Random, nodes: &mut Vec<Node>) {
-    nodes.push(and(random.below(64) as u16, random.below(64) as u16));
-    for _ in 1..31 {
-        let before = nodes.len() as u16 - 1;
-        nodes.push(and(before, random.below(64) as u16));
-    }
+    let draw = if service.takes_program() { files::and_trees } else { files::circuit };
+    Job::new(random, service, "by gates", 64_000 / gates, |random| draw(random, gates))
 }

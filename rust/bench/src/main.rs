@@ -1,21 +1,23 @@
 //! Times the services beside the same jobs in idiomatic Rust, in one run, shows how the time grows
 //! with the gates, and finds the stack that compile takes:
 //! `cargo run --offline --release -p bench`.
+//!
+//! Every job has many files, drawn at random and called in turn: on one file over and over, the
+//! processor would learn by heart which way each branch goes, and a call would look faster than it
+//! is. Both sides have to give the same answers on each of them before any is timed.
 
 use std::time::{Duration, Instant};
 
 use agreement::random::Random;
 
+mod files;
 mod idiomatic;
 mod jobs;
 mod sides;
 mod stack;
 
-use jobs::{Calls, Job, Service, SERVICES};
+use jobs::{Job, Round, Service, FILES, SERVICES};
 use sides::{ARCHIVE, RUST};
-
-/// Calls in a round: the time of a job is the median of its rounds.
-const CALLS: u32 = 4;
 
 /// The numbers of gates of the second table.
 const GATES: [usize; 4] = [1000, 2000, 4000, 8000];
@@ -32,13 +34,15 @@ fn main() {
     stack::print();
 }
 
-/// Every service on the largest files, beside Rust.
+/// Every service on large files, beside Rust.
 fn ratios(random: &mut Random) {
     println!(
-        "\nTime of a call, median of rounds of {CALLS} calls, the two sides in turn; ratio of"
-    );
-    println!(
-        "liboracle.a to Rust. What else the machine does moves the times more than the ratio.\n"
+        "
+Each row has {FILES} files of one size, drawn at random. A round is a call with each of them in
+turn, and the two sides take rounds in turn. The time of a call is that of the median round,
+divided by its calls; the ratio is that of liboracle.a to Rust. What else the machine does moves
+the times more than the ratio.
+"
     );
     println!(
         "{:<13} {:<38} {:>12} {:>11} {:>6}  buffers",
@@ -57,10 +61,12 @@ fn ratios(random: &mut Random) {
 /// How the time of liboracle.a grows with the number of gates.
 fn growth(random: &mut Random) {
     println!(
-        "\nTime of a call of liboracle.a, and of that a gate, by the gates of the circuit. The"
+        "
+Time of a call of liboracle.a, and of that a gate, by the gates of the circuit. A round goes over
+files that have 64,000 gates together. Lines are reset before each call, and no other buffer is
+cleared.
+"
     );
-    println!("calls go in turn over files with 64,000 gates together. Lines are reset before each");
-    println!("call, and no other buffer is cleared.\n");
     let columns = GATES.map(|gates| format!("{:>21}", format!("{gates} gates"))).concat();
     println!("{:<13} {columns}", "service");
     for service in SERVICES {
@@ -72,8 +78,8 @@ fn growth(random: &mut Random) {
 fn time_of_gates(random: &mut Random, service: Service, gates: usize) -> String {
     let job = jobs::of_gates(random, service, gates);
     job.check(random);
-    let mut calls = job.on(&ARCHIVE);
-    let mut times: Vec<Duration> = (0..job.rounds).map(|_| round(&job, &mut calls)).collect();
+    let mut round = job.on(&ARCHIVE);
+    let mut times: Vec<Duration> = (0..job.rounds).map(|_| time(&job, &mut round)).collect();
     let time = median(&mut times);
     let nanoseconds = time.as_secs_f64() * 1e9 / gates as f64;
     format!("{:>12} {nanoseconds:>5.1} ns", shown(time))
@@ -85,24 +91,21 @@ fn side_by_side(job: &Job) -> (Duration, Duration) {
     let (mut archives, mut rusts) = (Vec::new(), Vec::new());
     for i in 0..job.rounds {
         if i % 2 == 0 {
-            archives.push(round(job, &mut archive));
-            rusts.push(round(job, &mut rust));
+            archives.push(time(job, &mut archive));
+            rusts.push(time(job, &mut rust));
         } else {
-            rusts.push(round(job, &mut rust));
-            archives.push(round(job, &mut archive));
+            rusts.push(time(job, &mut rust));
+            archives.push(time(job, &mut archive));
         }
     }
     (median(&mut archives), median(&mut rusts))
 }
 
 /// The time of a call, as a round gives it.
-fn round(job: &Job, calls: &mut Calls) -> Duration {
-    let repeats = CALLS.div_ceil(job.calls());
+fn time(job: &Job, round: &mut Round) -> Duration {
     let start = Instant::now();
-    for _ in 0..repeats {
-        calls();
-    }
-    start.elapsed() / (repeats * job.calls())
+    round();
+    start.elapsed() / job.calls()
 }
 
 fn median(times: &mut [Duration]) -> Duration {

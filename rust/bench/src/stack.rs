@@ -5,6 +5,7 @@ use std::hint::black_box;
 use std::process::{Command, Stdio};
 use std::{env, process, thread};
 
+use agreement::compare::{MOST_BYTES, MOST_NODES};
 use agreement::program::{and, input, not, xor, Node, Program};
 
 /// The argument that makes this program try one stack.
@@ -52,7 +53,7 @@ pub fn try_if_asked() {
 /// A call with a shape, or with no shape no call.
 fn call(index: Option<usize>) -> impl FnOnce() {
     let file = index.map(|index| shape(index).bytes());
-    let (mut sizes, mut area) = (vec![0; 4096], vec![0; 64_028]);
+    let (mut sizes, mut area) = (vec![0; MOST_NODES], vec![0; MOST_BYTES]);
     move || {
         below_ballast(|| {
             if let Some(file) = &file {

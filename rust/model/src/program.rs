@@ -38,30 +38,8 @@ pub fn read(file: &[u8]) -> Result<Program, Refusal> {
     // 1 and 2
     let [head, nodes, outputs] = contents::bodies(file, [1, 2, 3])?;
 
-    // 3: the length of a body
-    if head.len() != 4 {
-        return Err(Refusal::of(3));
-    }
-    let n = usize::from(u16_at(head, 0));
-    let m = usize::from(u16_at(head, 2));
-    if nodes.len() % NODE_LENGTH != 0 {
-        return Err(Refusal::of(3));
-    }
-    let node_count = nodes.len() / NODE_LENGTH;
-    if !(1..=4096).contains(&node_count) {
-        return Err(Refusal::of(3));
-    }
-    if outputs.len() != OUTPUT_LENGTH * m {
-        return Err(Refusal::of(3));
-    }
-
-    // 4: n or m out of range
-    if n > 64 {
-        return Err(Refusal::of(4));
-    }
-    if !(1..=64).contains(&m) {
-        return Err(Refusal::of(4));
-    }
+    // 3 and 4
+    let n = inputs(head, nodes, outputs)?;
 
     // 5: a node, the lowest first
     let nodes = nodes
@@ -75,10 +53,38 @@ pub fn read(file: &[u8]) -> Result<Program, Refusal> {
         .chunks_exact(OUTPUT_LENGTH)
         .map(|record| usize::from(u16_at(record, 0)))
         .enumerate()
-        .map(|(k, index)| (index < node_count).then_some(index).ok_or(Refusal::at(6, k)))
+        .map(|(k, index)| (index < nodes.len()).then_some(index).ok_or(Refusal::at(6, k)))
         .collect::<Result<Vec<_>, _>>()?;
 
     Ok(Program { inputs: n, nodes, outputs })
+}
+
+/// The number of inputs, where every body has a length of its layout and n and m are in range.
+fn inputs(head: &[u8], nodes: &[u8], outputs: &[u8]) -> Result<usize, Refusal> {
+    // 3: the length of a body
+    if head.len() != 4 {
+        return Err(Refusal::of(3));
+    }
+    let n = usize::from(u16_at(head, 0));
+    let m = usize::from(u16_at(head, 2));
+    if !nodes.len().is_multiple_of(NODE_LENGTH) {
+        return Err(Refusal::of(3));
+    }
+    if !(1..=4096).contains(&(nodes.len() / NODE_LENGTH)) {
+        return Err(Refusal::of(3));
+    }
+    if outputs.len() != OUTPUT_LENGTH * m {
+        return Err(Refusal::of(3));
+    }
+
+    // 4: n or m out of range
+    if n > 64 {
+        return Err(Refusal::of(4));
+    }
+    if !(1..=64).contains(&m) {
+        return Err(Refusal::of(4));
+    }
+    Ok(n)
 }
 
 /// The node at an index of a program with n inputs, unless its record is bad.

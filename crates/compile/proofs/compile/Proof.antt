@@ -2,9 +2,9 @@ use native.Mathlib.Omega.{arith}
 use mathlib.Core.Path.{ap, _∙_}
 use borrow.Author.Needs.{needs}
 use Rattle.program.proofs.AcceptedLaws.{Read, read, read-refused}
-use Rattle.compile.specs.Compiling.{compiled}
+use Rattle.compile.specs.Answers.{compiled}
 use Rattle.compile.proofs.CompileLaws.{reader-refuses, list-short, sizeable, listed, sized, sizes-stored}
-use Rattle.compile.proofs.DemandLaws.{demand-met}
+use Rattle.compilation.proofs.DemandLaws.{demand-met}
 use Rattle.compile.proofs.compile.Statement.{statement}
 use Rattle.compile.proofs.compile.Tie as tie
 use Rattle.compile.proofs.compile.Reads as reads

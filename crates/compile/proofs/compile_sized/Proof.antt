@@ -5,21 +5,21 @@ use mathlib.Core.List.{List}
 use lib.ListN.{length}
 use borrow.Author.Needs.{needs}
 use borrow.Author.Tests.{not-true, not-false}
-use Rattle.wire.specs.Checks.{lowest}
-use Rattle.wire.specs.Contents.{bodyOf}
-use Rattle.construct.specs.Counters.{Needed}
-use Rattle.construct.specs.Tables.{treesIn}
+use Rattle.refusal.specs.Checks.{lowest}
+use Rattle.contents.specs.Contents.{bodyOf}
+use Rattle.counting.specs.Counters.{Needed}
+use Rattle.program.specs.Tables.{treesIn}
 use Rattle.sizing.specs.Steps.{entryFits}
 use Rattle.compile.proofs.SizedLaws.{accepts, named, size-refused, shares-countable, grant-refused, lines-refused, room-refused, few-gates, head-fits, circuit-written}
 use Rattle.compile.proofs.compile_sized.Statement.{statement}
 use Rattle.compile.proofs.compile_sized.Tie as tie
 use Rattle.compile.proofs.compile_sized.Reads as reads
 use Rattle.compile.proofs.compile_sized.Lts as lts
-use Rattle.circuit.proofs.writer.clear.Reads as clear-reads
-use Rattle.compile.proofs.has_room.Reads as has-room-reads
+use Rattle.wire.proofs.areas.clear.Reads as clear-reads
+use Rattle.circuit.proofs.layout.has_room.Reads as has-room-reads
 use Rattle.sizing.proofs.first_too_large.Reads as first-too-large-reads
-use Rattle.compile.proofs.write_circuit.Reads as write-circuit-reads
-use Rattle.construct.proofs.counter.count_shares.Reads as count-shares-reads
+use Rattle.shares.proofs.write_circuit.Reads as write-circuit-reads
+use Rattle.counting.proofs.count_shares.Reads as count-shares-reads
 use Rattle.program.proofs.reader.node_body.Reads as node-body-reads
 use Rattle.program.proofs.reader.output_body.Reads as output-body-reads
 

@@ -1,8 +1,8 @@
 use Prim.Native.Nat.{ℕ}
 use mathlib.Core.List.{List}
 use lib.ListN.{getD}
-use Rattle.wire.specs.Answers.{result}
-use Rattle.wire.specs.Contents.{bodyOf}
+use Rattle.refusal.specs.Answers.{result}
+use Rattle.contents.specs.Contents.{bodyOf}
 use Rattle.program.specs.Reading.{outputAt}
 use mathlib.Core.Path.{_≡_, sym, ap, _∙_}
 use native.Mathlib.Omega.{arith}

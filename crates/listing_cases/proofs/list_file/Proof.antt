@@ -1,5 +1,5 @@
 use borrow.Author.Needs.{needs}
-use Rattle.text.proofs.ListingLaws.{end-within}
+use Rattle.list.proofs.PrintedLaws.{end-within}
 use Rattle.listing_cases.proofs.list_file.Statement.{statement}
 use Rattle.listing_cases.proofs.list_file.Tie as tie
 

@@ -2,7 +2,7 @@ use borrow.Author.Needs.{needs}
 use Rattle.oracle.proofs.oracle_run_backwards.Statement.{statement}
 use Rattle.oracle.proofs.oracle_run_backwards.Tie as tie
 use mathlib.Core.Path.{ap, _∙_}
-use Rattle.oracle.specs.Exported.{exported}
+use Rattle.abi.specs.Exported.{exported}
 
 run-backwards-requires : tie.Need-run-backwards-requires
 run-backwards-requires c κs = search needs

@@ -2,7 +2,7 @@ use borrow.Author.Needs.{needs}
 use Rattle.oracle.proofs.oracle_run_forwards.Statement.{statement}
 use Rattle.oracle.proofs.oracle_run_forwards.Tie as tie
 use mathlib.Core.Path.{ap, _∙_}
-use Rattle.oracle.specs.Exported.{exported}
+use Rattle.abi.specs.Exported.{exported}
 
 run-forwards-requires : tie.Need-run-forwards-requires
 run-forwards-requires c κs = search needs

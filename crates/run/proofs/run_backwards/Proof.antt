@@ -5,17 +5,17 @@ use Rattle.run.proofs.run_backwards.Reads as reads
 use Rattle.run.proofs.run_backwards.Lts as lts
 use Rattle.circuit.proofs.reader.gate_body.Reads as gate-body-reads
 use Rattle.circuit.proofs.reader.read_with_lines.Reads as read-with-lines-reads
-use Rattle.run.proofs.apply_all_back.Reads as apply-all-back-reads
+use Rattle.run.proofs.steps.apply_all_back.Reads as apply-all-back-reads
 use Rattle.run.proofs.refused.Reads as refused-reads
 use Prim.Native.Nat.{ℕ}
 use mathlib.Core.Path.{sym, ap, _∙_}
 use mathlib.Core.List.{List}
-use Rattle.wire.proofs.AnswerLaws.{Came, came, came-refused}
+use Rattle.refusal.proofs.AnswerLaws.{Came, came, came-refused}
 use Rattle.gate.specs.Running.{runBack}
 use Rattle.circuit.specs.Circuits.{headOf, gatesIn}
 use Rattle.circuit.specs.Reading.{readWithLines, circuitRead}
 use Rattle.run.specs.RunCircuit.{runBackwards, ran}
-use Rattle.circuit.proofs.AcceptedLaws.{lines-laid}
+use Rattle.circuit.proofs.AcceptedLaws.{lines-laid, lines-gates}
 use Rattle.run.proofs.RunLaws.{run-refused, run-done, runnable}
 
 abbrev claims : lts.Claims
@@ -53,7 +53,7 @@ returns : tie.Need-returns
 unfolding runBackwards
 returns c = let a = c .before .before .before .before .before .before .before .args in
     let e = c .before .enum-told2 .given .1 in
-    let o = run-refused (a .file .now) (a .lines .now) runBack _ _ (came-refused headOf (readWithLines (a .file .now) (a .lines .now)) _ _ (sym (ap circuitRead e) ∙ c .before .before .before .read-with-lines .ensures)) in
+    let o = run-refused (readWithLines (a .file .now) (a .lines .now)) (a .lines .now) runBack _ _ (came-refused headOf (readWithLines (a .file .now) (a .lines .now)) _ _ (sym (ap circuitRead e) ∙ c .before .before .before .read-with-lines .ensures)) in
     (ap ran (c .refused .ensures _ e) ∙ o .answer, o .lines-are)
 
 gate-body-requires : tie.Need-gate-body-requires
@@ -68,7 +68,7 @@ same-length-2 c = search needs
 returns-2 : tie.Need-returns-2
 unfolding runBackwards
 returns-2 c = let a = c .before .before .before .before .before .before .before .before .before .before .before .args in
-    let o = run-done (a .file .now) (a .lines .now) runBack (good (c .before .before .before .before .before) .from) (good (c .before .before .before .before .before) .was) in
+    let o = run-done (readWithLines (a .file .now) (a .lines .now)) (a .lines .now) runBack (good (c .before .before .before .before .before) .from) _ (good (c .before .before .before .before .before) .was) (lines-gates (a .file .now) (a .lines .now) (good (c .before .before .before .before .before) .from) (good (c .before .before .before .before .before) .was)) in
     (o .answer, c .before .before .apply-all-back .ensures ∙ ap (λ (b : List ℕ). runBack (gatesIn b) (a .lines .now)) (c .before .before .before .before .gate-body .ensures) ∙ o .lines-are)
 
 pub run-backwards-spec : {M : Type 1} → statement M

@@ -5,11 +5,11 @@ use native.Mathlib.Omega.{arith}
 use lib.ListN.{length}
 use lib.Seq.{length-take-le}
 use Rattle.wire.proofs.FillLaws.{Filled, filled-start}
-use Rattle.program.specs.Nodes.{nodesIn}
+use Rattle.node.specs.Nodes.{nodesIn}
 use Rattle.sizing.specs.Sizing.{shown, nodeSizes}
-use Rattle.program.specs.Exprs.{size}
-use Rattle.program.proofs.FilledLaws.{entry-stored, entries-stored}
-use Rattle.program.proofs.TreeLaws.{next-ok}
+use Rattle.node.specs.Exprs.{size}
+use Rattle.node.proofs.FilledLaws.{entry-stored, entries-stored}
+use Rattle.node.proofs.TreeLaws.{next-ok}
 use Rattle.sizing.proofs.fill_sizes.Statement.{statement}
 use Rattle.sizing.proofs.fill_sizes.Tie as tie
 

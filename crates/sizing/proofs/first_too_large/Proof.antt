@@ -3,7 +3,7 @@ use Prim.Native.Nat.{_-_, _/_}
 use mathlib.Core.Path.{sym}
 use native.Mathlib.Omega.{arith}
 use lib.ListN.{length}
-use Rattle.wire.proofs.CheckLaws.{Passed, passed-start, passed-next, passed-fails, passed-all}
+use Rattle.refusal.proofs.CheckLaws.{Passed, passed-start, passed-next, passed-fails, passed-all}
 use Rattle.sizing.specs.Steps.{entryFits}
 use Rattle.sizing.proofs.SizeLaws.{entry-fits, entry-large}
 use Rattle.sizing.proofs.first_too_large.Statement.{statement}

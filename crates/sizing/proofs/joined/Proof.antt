@@ -10,6 +10,9 @@ add-sum c = search needs
 add-sum-2 : tie.Need-add-sum-2
 add-sum-2 c = search needs
 
+cast-if1 : tie.Need-cast-if1
+cast-if1 c = search needs
+
 cast-result : tie.Need-cast-result
 cast-result c = search needs
 
@@ -17,12 +20,9 @@ returns : tie.Need-returns
 unfolding shown
 returns c = omega arith
 
-cast-result-2 : tie.Need-cast-result-2
-cast-result-2 c = search needs
-
 returns-2 : tie.Need-returns-2
 unfolding shown
 returns-2 c = omega arith
 
 pub joined-spec : {M : Type 1} → statement M
-joined-spec = tie.close (tie.spec add-sum add-sum-2 cast-result returns cast-result-2 returns-2)
+joined-spec = tie.close (tie.spec add-sum add-sum-2 cast-if1 cast-result returns returns-2)

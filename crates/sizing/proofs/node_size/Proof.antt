@@ -1,10 +1,6 @@
-use mathlib.Core.Path.{refl}
 use native.Mathlib.Omega.{arith}
-use Rattle.sizing.specs.Sizing.{shown}
-use Rattle.program.specs.Exprs.{size}
-use Rattle.program.specs.Trees.{treeOf}
-use Rattle.sizing.proofs.SizeLaws.{size-not, size-xor, size-and}
-use Rattle.program.proofs.NodeLaws.{not-operand, xor-operands, and-operands}
+use Rattle.sizing.proofs.SizeLaws.{next-zero, next-one, next-input, next-not, next-xor, next-and}
+use Rattle.node.proofs.NodeLaws.{not-operand, xor-operands, and-operands}
 use borrow.Author.Needs.{needs}
 use Rattle.sizing.proofs.node_size.Statement.{statement}
 use Rattle.sizing.proofs.node_size.Tie as tie
@@ -90,31 +86,28 @@ joined-requires-3 : tie.Need-joined-requires-3
 joined-requires-3 c κs = search needs
 
 returns : tie.Need-returns
-unfolding treeOf size shown
-returns c ts e = rw (c .enum-told .given .1) refl
+returns c ts e = rw (c .enum-told .given .1) (next-zero _ ts e)
 
 returns-2 : tie.Need-returns-2
-unfolding treeOf size shown
-returns-2 c ts e = rw (c .enum-told2 .given .1) refl
+returns-2 c ts e = rw (c .enum-told2 .given .1) (next-one _ ts e)
 
 returns-3 : tie.Need-returns-3
-unfolding treeOf size shown
-returns-3 c ts e = rw (c .enum-told3 .given .1) refl
+returns-3 c ts e = rw (c .enum-told3 .given .1) (next-input _ _ ts e)
 
 returns-4 : tie.Need-returns-4
 returns-4 c ts e =
     let o = c .before .before .before .node .given in
-    rw (o .1) (size-not ts e (o .0 .0) (not-operand _ _ (c .before .before .before .before .before .before .pre .1) (o .1)) (c .joined .ensures))
+    rw (o .1) (next-not (o .0 .0) (not-operand _ _ (c .before .before .before .before .before .before .pre .1) (o .1)) (c .joined .ensures) ts e)
 
 returns-5 : tie.Need-returns-5
 returns-5 c ts e =
     let o = c .before .before .before .before .node2 .given in
-    rw (o .1) (size-xor ts e (o .0 .0) (o .0 .1 .0) (xor-operands _ _ (c .before .before .before .before .before .before .before .pre .1) (o .1)) (c .joined2 .ensures))
+    rw (o .1) (next-xor (o .0 .0) (o .0 .1 .0) (xor-operands _ _ (c .before .before .before .before .before .before .before .pre .1) (o .1)) (c .joined2 .ensures) ts e)
 
 returns-6 : tie.Need-returns-6
 returns-6 c ts e =
     let o = c .before .before .before .before .node3 .given in
-    rw (o .1) (size-and ts e (o .0 .0) (o .0 .1 .0) (and-operands _ _ (c .before .before .before .before .before .before .before .pre .1) (o .1)) (c .joined3 .ensures))
+    rw (o .1) (next-and (o .0 .0) (o .0 .1 .0) (and-operands _ _ (c .before .before .before .before .before .before .before .pre .1) (o .1)) (c .joined3 .ensures) ts e)
 
 pub node-size-spec : {M : Type 1} → statement M
 node-size-spec =

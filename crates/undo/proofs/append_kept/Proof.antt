@@ -4,20 +4,20 @@ use Rattle.undo.proofs.append_kept.Tie as tie
 use Rattle.undo.proofs.append_kept.Reads as reads
 use Rattle.undo.proofs.append_kept.Lts as lts
 use Rattle.undo.proofs.left_out.Reads as left-out-reads
-use Rattle.undo.proofs.writer.append_gate.Reads as append-gate-reads
-use Rattle.gate.proofs.gates.gate_at.Reads as gate-at-reads
+use Rattle.appending.proofs.writer.append_gate.Reads as append-gate-reads
+use Rattle.gate_bytes.proofs.reader.gate_at.Reads as gate-at-reads
 use mathlib.Core.Path.{_≡_, sym, ap, _∙_}
 use mathlib.Core.List.{List, [], _∷_}
 use native.Mathlib.Nat.{add-zero}
 use native.Mathlib.Omega.{arith}
 use lib.ListN.{length}
 use Rattle.gate.specs.declared.gates.Gate.{Gate}
-use Rattle.gate.specs.GateBytes.{gateAt}
+use Rattle.gate_bytes.specs.GateBytes.{gateAt}
 use Rattle.gate.specs.Running.{without}
-use Rattle.circuit.specs.Steps.{putGates}
+use Rattle.areas.specs.AreaGates.{putGates}
 use Rattle.undo.specs.UndoCircuit.{chosen}
 use Rattle.gate.proofs.UncomputeLaws.{one-out, one-kept}
-use Rattle.circuit.proofs.WriterLaws.{put-none}
+use Rattle.areas.proofs.WriterLaws.{put-none}
 
 abbrev claims : lts.Claims
 claims = (

@@ -3,11 +3,11 @@
 
 use std::{fs, io};
 
-use agreement::listing_cases;
+use agreement::{listing_cases, repository};
 
 fn main() -> io::Result<()> {
     for (name, content) in listing_cases::files() {
-        let path = listing_cases::repository().join(&name);
+        let path = repository::path(&name);
         if let Some(folder) = path.parent() {
             fs::create_dir_all(folder)?;
         }

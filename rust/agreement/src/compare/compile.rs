@@ -3,7 +3,7 @@
 use model::construct;
 use model::program::Node::{And, Input, Not, One, Xor, Zero};
 
-use super::{MOST_BYTES, NO_GATES};
+use super::{MOST_BYTES, MOST_NODES, NO_GATES};
 use crate::compare::read;
 use crate::lent::lent;
 use crate::random::Random;
@@ -75,18 +75,20 @@ pub fn model(case: &Case) -> Compiled {
     (super::model(answer), sizes, area)
 }
 
+/// The circuit file that the archive writes, in a list and an area that are always enough.
+pub fn written(file: &[u8], grant: u64) -> Outcome<Vec<u8>> {
+    let (outcome, _, area) = archive(&Case::new(file, grant, MOST_NODES, MOST_BYTES));
+    outcome.map(|length| area[..length].to_vec())
+}
+
 /// Holds both sides to each other and to what 01 says of each outcome.
 pub fn compare(case: &Case) -> Outcome<usize> {
     let (expected, expected_sizes, expected_area) = model(case);
     let (outcome, sizes, area) = archive(case);
     assert_eq!(outcome, expected, "compile: archive, then model, {}", case.describe());
-    match outcome {
-        Ok(length) => {
-            reads_back(case, &area[..length]);
-            assert!(area[length..] == case.area[length..], "past the file, {}", case.describe());
-        }
-        Err((11, _)) => assert!(area.iter().all(|byte| *byte == 0), "11, {}", case.describe()),
-        Err(_) => assert!(area == case.area, "a refusal leaves the area, {}", case.describe()),
+    super::area_is_left(outcome, &case.area, &area, || case.describe());
+    if let Ok(length) = outcome {
+        reads_back(case, &area[..length]);
     }
     match outcome {
         Err((1..=7, _)) => assert_eq!(sizes, case.sizes, "1 to 7, {}", case.describe()),
@@ -164,7 +166,7 @@ fn random_entries(random: &mut Random, nodes: usize) -> usize {
         2 => 0,
         3..=6 => nodes + 1,
         7..=9 => nodes + random.within(2..=64),
-        10 => nodes.max(4_096),
+        10 => nodes.max(MOST_NODES),
         _ => nodes,
     }
 }

@@ -1,5 +1,6 @@
 //! evaluate, the value list before and after included.
 
+use super::MOST_NODES;
 use crate::lent::lent;
 use crate::random::Random;
 use crate::{circuit, hex, Outcome};
@@ -62,6 +63,18 @@ fn holds_values(case: &Case, values: &[u8], bit: bool) {
     assert_eq!(values[node], u8::from(bit), "the output's node, {}", case.describe());
     assert!(values[..count].iter().all(|value| *value <= 1), "{}", case.describe());
     assert_eq!(values[count..], case.values[count..], "past the nodes, {}", case.describe());
+}
+
+/// The values of the first outputs of a good program, on which both sides have to agree.
+pub fn outputs(file: &[u8], inputs: &[u8], count: usize) -> Vec<u8> {
+    let value = |k: u64| {
+        let expected = model::evaluate::evaluate(file, &mut [9; MOST_NODES], inputs, k);
+        let value = oracle::evaluate(file, &mut [9; MOST_NODES], inputs, k);
+        let value = value.expect("a good program");
+        assert_eq!(Ok(value), expected, "output {k} on {inputs:?}, {}", hex(file));
+        u8::from(value)
+    };
+    (0..count as u64).map(value).collect()
 }
 
 /// A random call on this file: mostly good arguments, otherwise any of them wrong.

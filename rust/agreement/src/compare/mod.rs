@@ -11,6 +11,9 @@ use crate::lent::lent;
 use crate::random::Random;
 use crate::Outcome;
 
+/// The most nodes of a program.
+pub const MOST_NODES: usize = 4_096;
+
 /// The length of a circuit file without gates.
 pub const NO_GATES: usize = 28;
 
@@ -29,6 +32,21 @@ type Answer<T> = Result<T, oracle::Refusal>;
 /// The outcome of a call of the model.
 fn model<T>(answer: Result<T, model::Refusal>) -> Outcome<T> {
     answer.map_err(|refusal| (refusal.number, refusal.place))
+}
+
+/// What 01 says of the area of a call that writes a circuit file: what stood behind the file stays,
+/// a refusal with 11 leaves zeros, and any other what there was.
+fn area_is_left(
+    outcome: Outcome<usize>,
+    before: &[u8],
+    after: &[u8],
+    describe: impl Fn() -> String,
+) {
+    match outcome {
+        Ok(length) => assert!(after[length..] == before[length..], "past the file, {}", describe()),
+        Err((11, _)) => assert!(after.iter().all(|byte| *byte == 0), "11, {}", describe()),
+        Err(_) => assert!(after == before, "a refusal leaves the area, {}", describe()),
+    }
 }
 
 /// A random length about the one that is needed.

@@ -15,6 +15,13 @@ pub struct Head {
     pub count: usize,
 }
 
+impl Head {
+    /// The number of lines of a circuit.
+    pub fn lines(&self) -> usize {
+        self.inputs + self.outputs + self.work
+    }
+}
+
 /// A service that reads a file and gives its numbers.
 pub struct Reader {
     /// The service's name.

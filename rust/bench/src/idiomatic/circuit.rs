@@ -2,17 +2,12 @@
 
 use oracle::CircuitHead;
 
-use super::{bodies, u16_at, Refused};
-
-const HEAD_LENGTH: usize = 6;
-const GATES_START: usize = 22 + HEAD_LENGTH;
-const GATE_LENGTH: usize = 8;
-const MOST_GATES: usize = 8000;
+use super::{bodies, u16_at, Gate, Refused, GATES_START, GATE_LENGTH, MOST_GATES};
 
 /// A circuit whose file was accepted. The gates stay in the file.
 struct Circuit<'a> {
     head: &'a [u8],
-    gates: &'a [u8],
+    gates: &'a [Gate],
     lines: usize,
 }
 
@@ -30,14 +25,14 @@ impl Circuit<'_> {
 pub fn read_circuit(file: &[u8]) -> Result<CircuitHead, Refused> {
     let circuit = read(file)?;
     let [inputs, outputs, work] = numbers(circuit.head);
-    Ok(CircuitHead { inputs, outputs, work, gates: circuit.gates.len() / GATE_LENGTH })
+    Ok(CircuitHead { inputs, outputs, work, gates: circuit.gates.len() })
 }
 
 /// Runs a circuit file, the first gate first.
 pub fn run_forwards(file: &[u8], lines: &mut [u8]) -> Result<(), Refused> {
     let circuit = read(file)?;
     circuit.check_bits(lines)?;
-    for gate in circuit.gates.chunks_exact(GATE_LENGTH) {
+    for gate in circuit.gates {
         step(gate, lines);
     }
     Ok(())
@@ -47,7 +42,7 @@ pub fn run_forwards(file: &[u8], lines: &mut [u8]) -> Result<(), Refused> {
 pub fn run_backwards(file: &[u8], lines: &mut [u8]) -> Result<(), Refused> {
     let circuit = read(file)?;
     circuit.check_bits(lines)?;
-    for gate in circuit.gates.chunks_exact(GATE_LENGTH).rev() {
+    for gate in circuit.gates.iter().rev() {
         step(gate, lines);
     }
     Ok(())
@@ -58,8 +53,8 @@ pub fn undo(file: &[u8], choices: &[u8], area: &mut [u8]) -> Result<usize, Refus
     let circuit = read(file)?;
     circuit.check_bits(choices)?;
 
-    let kept = |gate: &&[u8]| choices[usize::from(u16_at(gate, 6))] == 0;
-    let gates = || circuit.gates.chunks_exact(GATE_LENGTH).rev().filter(kept);
+    let kept = |gate: &&Gate| choices[usize::from(u16_at(*gate, 6))] == 0;
+    let gates = || circuit.gates.iter().rev().filter(kept);
     let count = gates().count();
     let length = GATES_START + GATE_LENGTH * count;
     if area.len() < length {
@@ -71,18 +66,16 @@ pub fn undo(file: &[u8], choices: &[u8], area: &mut [u8]) -> Result<usize, Refus
     start.copy_from_slice(&file[..GATES_START]);
     start[18..22].copy_from_slice(&(body.len() as u32).to_le_bytes());
     start[22..].copy_from_slice(circuit.head);
-    for (to, gate) in body.chunks_exact_mut(GATE_LENGTH).zip(gates()) {
-        to.copy_from_slice(gate);
+    for (to, gate) in body.as_chunks_mut().0.iter_mut().zip(gates()) {
+        *to = *gate;
     }
     Ok(length)
 }
 
 fn read(file: &[u8]) -> Result<Circuit<'_>, Refused> {
     let [head, gates] = bodies(file, 17)?;
-    if head.len() != HEAD_LENGTH
-        || gates.len() % GATE_LENGTH != 0
-        || gates.len() > MOST_GATES * GATE_LENGTH
-    {
+    let (gates, rest) = gates.as_chunks();
+    if head.len() != 6 || !rest.is_empty() || gates.len() > MOST_GATES {
         return Err((3, 0));
     }
 
@@ -92,7 +85,7 @@ fn read(file: &[u8]) -> Result<Circuit<'_>, Refused> {
     }
 
     let lines = n + m + w;
-    match gates.chunks_exact(GATE_LENGTH).position(|gate| !is_good(gate, lines)) {
+    match gates.iter().position(|gate| !is_good(gate, lines)) {
         Some(index) => Err((12, index as u64)),
         None => Ok(Circuit { head, gates, lines }),
     }
@@ -103,22 +96,29 @@ fn numbers(head: &[u8]) -> [usize; 3] {
     [0, 2, 4].map(|at| usize::from(u16_at(head, at)))
 }
 
-fn is_good(gate: &[u8], lines: usize) -> bool {
-    let [a, b, t] = [2, 4, 6].map(|at| usize::from(u16_at(gate, at)));
+/// The kind of a gate, whose second byte has to be zero, its controls and its target.
+fn fields(gate: &Gate) -> [usize; 4] {
+    [0, 2, 4, 6].map(|at| usize::from(u16_at(gate, at)))
+}
+
+fn is_good(gate: &Gate, lines: usize) -> bool {
+    let [kind, a, b, t] = fields(gate);
     let in_range = a < lines && b < lines && t < lines;
-    match (gate[0], gate[1]) {
-        (1, 0) => in_range && a == 0 && b == 0,
-        (2, 0) => in_range && b == 0 && a != t,
-        (3, 0) => in_range && a != b && a != t && b != t,
+    match kind {
+        1 => in_range && a == 0 && b == 0,
+        2 => in_range && b == 0 && a != t,
+        3 => in_range && a != b && a != t && b != t,
         _ => false,
     }
 }
 
-fn step(gate: &[u8], lines: &mut [u8]) {
-    let [a, b, t] = [2, 4, 6].map(|at| usize::from(u16_at(gate, at)));
-    match gate[0] {
-        1 => lines[t] ^= 1,
-        2 => lines[t] ^= lines[a],
-        _ => lines[t] ^= lines[a] & lines[b],
-    }
+/// A control that a gate does not use is 0, so there is a line for each field.
+fn step(gate: &Gate, lines: &mut [u8]) {
+    let [kind, a, b, t] = fields(gate);
+    let (a, b) = (lines[a], lines[b]);
+    lines[t] ^= match kind {
+        1 => 1,
+        2 => a,
+        _ => a & b,
+    };
 }

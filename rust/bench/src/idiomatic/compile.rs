@@ -1,13 +1,10 @@
 //! The service compile. The construction calls itself on operands, and so does counting it.
 
 use super::program::{read, Node, Program};
-use super::Refused;
+use super::{Gate, Refused, GATES_START, GATE_LENGTH, MOST_GATES};
 
 const LARGEST_SIZE: u16 = 16_384;
 const MOST_WORK_LINES: u64 = 1024;
-const MOST_GATES: usize = 8000;
-const GATES_START: usize = 28;
-const GATE_LENGTH: usize = 8;
 
 /// Compiles a program file and gives the length of the circuit file.
 pub fn compile(
@@ -43,7 +40,7 @@ pub fn compile(
 
     let (start, body) = area[..length].split_at_mut(GATES_START);
     write_start(start, &program, lines as u16, body.len() as u32);
-    write_shares(&program, body);
+    write_shares(&program, body.as_chunks_mut().0);
     Ok(length)
 }
 
@@ -96,22 +93,22 @@ fn write_start(start: &mut [u8], program: &Program, work: u16, gates_length: u32
     }
 }
 
-fn write_shares(program: &Program, body: &mut [u8]) {
+fn write_shares(program: &Program, gates: &mut [Gate]) {
     let first_work_line = program.inputs + program.output_count();
-    let mut rest = body;
+    let mut rest = gates;
     for (target, output) in (program.inputs..).zip(program.outputs()) {
-        let mut share = Share { gates: rest, length: 0, free: first_work_line };
+        let mut share = Share { gates: rest, count: 0, free: first_work_line };
         share.build(program, output, target);
         share.clean(target);
-        let length = share.length;
-        rest = &mut share.gates[length..];
+        let count = share.count;
+        rest = &mut share.gates[count..];
     }
 }
 
-/// A share as far as it is written.
+/// A share as far as it is written: so many gates, and the lowest free line.
 struct Share<'a> {
-    gates: &'a mut [u8],
-    length: usize,
+    gates: &'a mut [Gate],
+    count: usize,
     free: u16,
 }
 
@@ -141,12 +138,12 @@ impl Share<'_> {
 
     /// Appends the gates written so far, the last one first, but for those of the target.
     fn clean(&mut self, target: u16) {
-        let (built, rest) = self.gates.split_at_mut(self.length);
+        let (built, rest) = self.gates.split_at_mut(self.count);
         let target = target.to_le_bytes();
-        let kept = built.chunks_exact(GATE_LENGTH).rev().filter(|gate| gate[6..] != target);
-        for (to, gate) in rest.chunks_exact_mut(GATE_LENGTH).zip(kept) {
-            to.copy_from_slice(gate);
-            self.length += GATE_LENGTH;
+        let kept = built.iter().rev().filter(|gate| gate[6..] != target);
+        for (to, gate) in rest.iter_mut().zip(kept) {
+            *to = *gate;
+            self.count += 1;
         }
     }
 
@@ -158,8 +155,7 @@ impl Share<'_> {
 
     fn push(&mut self, kind: u8, control: u16, second: u16, target: u16) {
         let [a, b, t] = [control, second, target].map(u16::to_le_bytes);
-        let gate = [kind, 0, a[0], a[1], b[0], b[1], t[0], t[1]];
-        self.gates[self.length..self.length + GATE_LENGTH].copy_from_slice(&gate);
-        self.length += GATE_LENGTH;
+        self.gates[self.count] = [kind, 0, a[0], a[1], b[0], b[1], t[0], t[1]];
+        self.count += 1;
     }
 }

@@ -20,14 +20,16 @@ pub enum Node {
 /// A program whose file was accepted. The nodes stay in the file.
 pub struct Program<'a> {
     pub inputs: u16,
-    outputs: &'a [u8],
-    nodes: &'a [u8],
+    outputs: &'a [[u8; 2]],
+    nodes: &'a [Record],
 }
+
+/// The bytes of a node.
+type Record = [u8; NODE_LENGTH];
 
 impl<'a> Program<'a> {
     pub fn node(&self, index: u16) -> Node {
-        let at = NODE_LENGTH * usize::from(index);
-        let record = &self.nodes[at..at + NODE_LENGTH];
+        let record = &self.nodes[usize::from(index)];
         let (a, b) = (u16_at(record, 2), u16_at(record, 4));
         match record[0] {
             0 => Node::Zero,
@@ -40,15 +42,15 @@ impl<'a> Program<'a> {
     }
 
     pub fn node_count(&self) -> usize {
-        self.nodes.len() / NODE_LENGTH
+        self.nodes.len()
     }
 
     pub fn outputs(&self) -> impl Iterator<Item = u16> + 'a {
-        self.outputs.chunks_exact(2).map(|record| u16_at(record, 0))
+        self.outputs.iter().map(|record| u16::from_le_bytes(*record))
     }
 
     pub fn output_count(&self) -> u16 {
-        (self.outputs.len() / 2) as u16
+        self.outputs.len() as u16
     }
 }
 
@@ -95,9 +97,9 @@ pub fn read(file: &[u8]) -> Result<Program<'_>, Refused> {
         return Err((3, 0));
     }
     let (n, m) = (u16_at(head, 0), u16_at(head, 2));
-    let node_count = nodes.len() / NODE_LENGTH;
-    if nodes.len() % NODE_LENGTH != 0
-        || !(1..=MOST_NODES).contains(&node_count)
+    let (nodes, rest) = nodes.as_chunks();
+    if !rest.is_empty()
+        || !(1..=MOST_NODES).contains(&nodes.len())
         || outputs.len() != 2 * usize::from(m)
     {
         return Err((3, 0));
@@ -105,24 +107,25 @@ pub fn read(file: &[u8]) -> Result<Program<'_>, Refused> {
     if n > 64 || !(1..=64).contains(&m) {
         return Err((4, 0));
     }
-    let mut records = nodes.chunks_exact(NODE_LENGTH).enumerate();
+    let mut records = nodes.iter().enumerate();
     if let Some((i, _)) = records.find(|(i, record)| !is_good(record, *i as u16, n)) {
         return Err((5, i as u64));
     }
-    let program = Program { inputs: n, outputs, nodes };
-    if let Some(k) = program.outputs().position(|index| usize::from(index) >= node_count) {
+    let program = Program { inputs: n, outputs: outputs.as_chunks().0, nodes };
+    if let Some(k) = program.outputs().position(|index| usize::from(index) >= nodes.len()) {
         return Err((6, k as u64));
     }
     Ok(program)
 }
 
-fn is_good(record: &[u8], index: u16, n: u16) -> bool {
-    let (a, b) = (u16_at(record, 2), u16_at(record, 4));
-    match (record[0], record[1]) {
-        (0 | 1, 0) => a == 0 && b == 0,
-        (2, 0) => a < n && b == 0,
-        (3, 0) => a < index && b == 0,
-        (4 | 5, 0) => a < index && b < index,
+/// The kind, whose second byte has to be zero, and the fields.
+fn is_good(record: &Record, index: u16, n: u16) -> bool {
+    let [kind, a, b] = [0, 2, 4].map(|at| u16_at(record, at));
+    match kind {
+        0 | 1 => a == 0 && b == 0,
+        2 => a < n && b == 0,
+        3 => a < index && b == 0,
+        4 | 5 => a < index && b < index,
         _ => false,
     }
 }

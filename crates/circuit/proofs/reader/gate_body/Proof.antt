@@ -1,5 +1,5 @@
 use native.Mathlib.Omega.{arith}
-use Rattle.wire.proofs.ContentsLaws.{body-there}
+use Rattle.contents.proofs.ContentsLaws.{body-there}
 use Rattle.circuit.proofs.reader.gate_body.Statement.{statement}
 use Rattle.circuit.proofs.reader.gate_body.Tie as tie
 

@@ -3,8 +3,8 @@ use Rattle.circuit.proofs.reader.head_in.Statement.{statement}
 use Rattle.circuit.proofs.reader.head_in.Tie as tie
 use Rattle.circuit.proofs.reader.head_in.Reads as reads
 use Rattle.circuit.proofs.reader.head_in.Lts as lts
-use Rattle.wire.proofs.contents.body.Reads as body-reads
-use Rattle.wire.proofs.contents.entry_length.Reads as entry-length-reads
+use Rattle.contents.proofs.reader.body.Reads as body-reads
+use Rattle.contents.proofs.reader.entry_length.Reads as entry-length-reads
 use Rattle.wire.proofs.numbers.get16.Reads as get16-reads
 use Prim.Native.Nat.{ℕ, _/_}
 use mathlib.Core.Path.{_≡_, ap, _∙_}
@@ -14,7 +14,7 @@ use lib.ListN.{length}
 use Rattle.circuit.specs.Format.{headLength}
 use Rattle.circuit.proofs.ReadingLaws.{head-long, head-read}
 use Rattle.wire.specs.Bytes.{at16}
-use Rattle.wire.proofs.ContentsLaws.{body-there}
+use Rattle.contents.proofs.ContentsLaws.{body-there}
 
 abbrev claims : lts.Claims
 claims = (body-reads.Asked, body-reads.Learnt, get16-reads.Asked, get16-reads.Learnt, entry-length-reads.Asked, entry-length-reads.Learnt)

@@ -12,6 +12,9 @@ cast-head c = search needs
 entry-length-requires-2 : tie.Need-entry-length-requires-2
 entry-length-requires-2 c κs = search needs
 
+cast-gates : tie.Need-cast-gates
+cast-gates c = search needs
+
 both-requires : tie.Need-both-requires
 both-requires c κs = search needs
 
@@ -28,6 +31,7 @@ lengths-fit-spec =
     entry-length-requires
     cast-head
     entry-length-requires-2
+    cast-gates
     both-requires
     both-requires-2
     returns)

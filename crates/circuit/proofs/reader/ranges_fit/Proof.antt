@@ -5,8 +5,8 @@ use native.Mathlib.Omega.{arith}
 use lib.ListN.{length}
 use borrow.Author.Needs.{needs}
 use Rattle.wire.specs.Bytes.{at16}
-use Rattle.wire.specs.Arity.{arityFits}
-use Rattle.wire.proofs.ContentsLaws.{body-there}
+use Rattle.contents.specs.Arity.{arityFits}
+use Rattle.contents.proofs.ContentsLaws.{body-there}
 use Rattle.circuit.proofs.ReadingLaws.{head-long, ranges-tests}
 use Rattle.circuit.proofs.reader.ranges_fit.Statement.{statement}
 use Rattle.circuit.proofs.reader.ranges_fit.Tie as tie
@@ -19,6 +19,9 @@ arity-fits-requires c κs = omega (arith, ap length (c .body .ensures), head-lon
 
 get16-requires : tie.Need-get16-requires
 get16-requires c κs = omega (arith, ap length (c .before .body .ensures), head-long _ (c .before .before .before .pre .0), c .before .before .before .pre .1)
+
+cast-both : tie.Need-cast-both
+cast-both c = search needs
 
 both-requires : tie.Need-both-requires
 both-requires c κs = search needs
@@ -33,4 +36,4 @@ returns c =
 
 pub ranges-fit-spec : {M : Type 1} → statement M
 ranges-fit-spec =
-    tie.close (tie.spec body-requires arity-fits-requires get16-requires both-requires returns)
+    tie.close (tie.spec body-requires arity-fits-requires get16-requires cast-both both-requires returns)

@@ -8,9 +8,9 @@ use Rattle.circuit.proofs.reader.line_count.Reads as line-count-reads
 use Rattle.circuit.proofs.reader.read_gates.Reads as read-gates-reads
 use Rattle.circuit.proofs.reader.read_head.Reads as read-head-reads
 use mathlib.Core.Path.{sym, _∙_, _≡_}
-use Rattle.wire.specs.Checks.{lowest}
-use Rattle.wire.specs.Contents.{bodyOf}
-use Rattle.gate.specs.GateBytes.{gateFits}
+use Rattle.refusal.specs.Checks.{lowest}
+use Rattle.contents.specs.Contents.{bodyOf}
+use Rattle.gate_bytes.specs.GateBytes.{gateFits}
 use Rattle.circuit.specs.Circuits.{headLines}
 use Rattle.circuit.proofs.AcceptedLaws.{head-passed, good-headed, gate-refused, gates-good}
 use Rattle.circuit.proofs.ReadingLaws.{lines-most, gates-lowest}

@@ -3,9 +3,9 @@ use borrow.Author.Needs.{needs}
 use Prim.Native.Nat.{_-_, _/_}
 use mathlib.Core.Path.{sym, _∙_}
 use lib.ListN.{length}
-use Rattle.wire.proofs.CheckLaws.{Passed, passed-start, passed-next, passed-fails, passed-all}
-use Rattle.gate.specs.GateBytes.{gateFits}
-use Rattle.gate.proofs.GateLaws.{read-good, read-bad, read-index}
+use Rattle.refusal.proofs.CheckLaws.{Passed, passed-start, passed-next, passed-fails, passed-all}
+use Rattle.gate_bytes.specs.GateBytes.{gateFits}
+use Rattle.gate_bytes.proofs.GateLaws.{read-good, read-bad, read-index}
 use Rattle.circuit.proofs.reader.read_gates.Statement.{statement}
 use Rattle.circuit.proofs.reader.read_gates.Tie as tie
 

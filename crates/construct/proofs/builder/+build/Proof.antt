@@ -1,22 +1,23 @@
 use mathlib.Core.Path.{_≡_, sym, _∙_}
 use native.Mathlib.Omega.{arith}
-use denote.Ref.{now}
-use Rattle.program.specs.declared.node.Node.the-variants as node
-use Rattle.program.specs.Exprs.{ZERO, ONE, INPUT, NOT, XOR, AND}
-use Rattle.program.specs.Trees.{treeOf}
-use Rattle.construct.specs.Tables.{treeIn}
-use Rattle.construct.proofs.OperandLaws.{Unary, Binary, node-there, tree-is, is-not, is-xor, is-and}
-use Rattle.construct.proofs.BuiltLaws.{built-from, built-into, built-zero, built-one, built-input, built-not, built-xor, built-and, room-one, room-input, room-not, room-under, room-xor-first, room-xor-second, line-first, room-and-first, line-second, room-and-second, room-toffoli}
-use borrow.Author.Needs.{needs}
 use Prim.Native.Nat.{ℕ, _<_}
+use denote.Ref.{now}
+use borrow.Author.Needs.{needs}
 use borrow.Fn.Kinds.{In}
 use borrow.Fn.PlainCycle.{Measures, is, falls, and}
+use Rattle.node.specs.declared.nodes.Node.the-variants as node
+use Rattle.node.specs.Exprs.{ZERO, ONE, INPUT, NOT, XOR, AND}
+use Rattle.node.specs.Trees.{treeOf}
+use Rattle.node.proofs.nodes.node_at.Reads as node-at-reads
+use Rattle.program.specs.Tables.{treeIn}
+use Rattle.program.proofs.OperandLaws.{Unary, Binary, node-there, tree-is, is-not, is-xor, is-and}
+use Rattle.construct.proofs.BuiltLaws.{by-numbers, built-zero, built-one, built-input, built-not, built-xor, built-and, free-low, few-now, room-one, room-input, room-not, room-under, room-xor-first, room-xor-second, line-first, room-and-first, line-second, room-and-second, room-toffoli}
 use Rattle.construct.proofs.builder.build.Reads as build
 use Rattle.construct.proofs.builder.build.Kinds as build-kinds
 use Rattle.construct.proofs.builder.+build.Lts-build as build-lts
 use Rattle.construct.proofs.builder.append.Reads as append-reads
+use Rattle.construct.proofs.builder.progress.Reads as progress-reads
 use Rattle.construct.proofs.builder.take_line.Reads as take-line-reads
-use Rattle.program.proofs.node.node_at.Reads as node-at-reads
 use Rattle.construct.proofs.builder.+build.{statement}
 use Rattle.construct.proofs.builder.+build.Tie.{close}
 
@@ -33,6 +34,8 @@ abbrev claims : ℕ → build-lts.Claims
 claims t = (
   node-at-reads.Asked,
   node-at-reads.Learnt,
+  progress-reads.Asked,
+  progress-reads.Learnt,
   append-reads.Asked,
   append-reads.Learnt,
   build-below t,
@@ -70,6 +73,9 @@ module _ (t : ℕ) where
   enum-told : build-lts.Need-enum-told (claims t) (build-at t) build.Post
   enum-told c = search needs
 
+  progress-requires : build-lts.Need-progress-requires (claims t) (build-at t) build.Post
+  progress-requires c κs = (few-now (c .before .before .before .before .before .pre .1), free-low (c .before .before .before .before .before .pre .1))
+
   enum-told-2 : build-lts.Need-enum-told-2 (claims t) (build-at t) build.Post
   enum-told-2 c = search needs
 
@@ -91,8 +97,11 @@ module _ (t : ℕ) where
   cast-build : build-lts.Need-cast-build (claims t) (build-at t) build.Post
   cast-build c = search needs
 
+  add-build : build-lts.Need-add-build (claims t) (build-at t) build.Post
+  add-build c = search needs
+
   build-requires : build-lts.Need-build-requires (claims t) (build-at t) build.Post
-  build-requires c κs = let k = as-not (c .before .before .before .before .before .before) in (omega (arith, k .only .low, c .before .before .before .before .before .before .before .before .before .before .before .pre .0), room-under (c .before .before .before .before .before .before .before .before .before .before .before .pre .1) k (c .before .before .before .append3 .ensures) (c .before .before .before .append3 .kept .0))
+  build-requires c κs = let k = as-not (c .before .before .before .before .before .before) in (omega (arith, k .only .low, c .before .before .before .before .before .before .before .before .before .before .before .pre .0), room-under (c .before .before .before .before .before .before .before .before .before .before .before .pre .1) k (c .before .before .before .append3 .kept .0))
 
   enum-known-node-3 : build-lts.Need-enum-known-node-3 (claims t) (build-at t) build.Post
   enum-known-node-3 c = search needs
@@ -112,14 +121,14 @@ module _ (t : ℕ) where
       let m = c .before .before .before .before .before .before .before .before .before .before .before .pre .1 in
       let v = c .before .before .before .build2 .ensures in (
         omega (arith, k .second .low, c .before .before .before .before .before .before .before .before .before .before .before .pre .0),
-        room-xor-second m k v (c .before .before .before .build2 .kept .1 .1 .1 .1 .1 .0) (omega (arith, m .taken, built-from v .free-to)) (omega (arith, built-from v .stored .count-to)) (omega (arith, built-from v .free-to)),
+        room-xor-second m k v (c .before .before .before .build2 .kept .1 .1 .1 .1 .1 .0) (omega (arith, m .taken, by-numbers v .free-to)) (omega (arith, by-numbers v .stored .count-to)) (omega (arith, by-numbers v .free-to)),
       )
 
   enum-known-node-4 : build-lts.Need-enum-known-node-4 (claims t) (build-at t) build.Post
   enum-known-node-4 c = search needs
 
   cast-first : build-lts.Need-cast-first (claims t) (build-at t) build.Post
-  cast-first c = omega (arith, line-first (c .before .before .before .before .before .before .pre .1) (as-and (c .before)))
+  cast-first c = omega (arith, free-low (c .before .before .before .before .before .before .pre .1))
 
   cast-build-4 : build-lts.Need-cast-build-4 (claims t) (build-at t) build.Post
   cast-build-4 c = search needs
@@ -128,18 +137,10 @@ module _ (t : ℕ) where
   take-line-requires c κs = line-first (c .before .before .before .before .before .before .pre .1) (as-and (c .before))
 
   build-requires-4 : build-lts.Need-build-requires-4 (claims t) (build-at t) build.Post
-  build-requires-4 c κs =
-      let k = as-and (c .before .before .before) in
-      let u = c .before .take-line .ensures in (
-        omega (arith, k .first .low, c .before .before .before .before .before .before .before .before .pre .0),
-        room-and-first (c .before .before .before .before .before .before .before .before .pre .1) k u (omega (arith, u)),
-      )
+  build-requires-4 c κs = let k = as-and (c .before .before .before) in (omega (arith, k .first .low, c .before .before .before .before .before .before .before .before .pre .0), room-and-first (c .before .before .before .before .before .before .before .before .pre .1) k (c .before .take-line .ensures) (omega (arith, c .before .before .before .before .before .before .before .before .pre .1 .taken)) (omega (arith, c .before .take-line .ensures)))
 
   cast-second : build-lts.Need-cast-second (claims t) (build-at t) build.Post
-  cast-second c =
-      let u = c .before .before .before .before .take-line .ensures in
-      let v = c .before .before .build4 .ensures in
-      omega (arith, line-second (c .before .before .before .before .before .before .before .before .before .before .before .pre .1) (as-and (c .before .before .before .before .before .before)) u v, u, built-from v .free-to)
+  cast-second c = search needs
 
   cast-build-5 : build-lts.Need-cast-build-5 (claims t) (build-at t) build.Post
   cast-build-5 c = search needs
@@ -150,48 +151,49 @@ module _ (t : ℕ) where
   build-requires-5 : build-lts.Need-build-requires-5 (claims t) (build-at t) build.Post
   build-requires-5 c κs =
       let k = as-and (c .before .before .before .before .before .before .before .before) in
+      let m = c .before .before .before .before .before .before .before .before .before .before .before .before .before .pre .1 in
       let u = c .before .before .before .before .before .before .take-line .ensures in
       let v = c .before .before .before .before .build4 .ensures in
       let u′ = c .before .take-line2 .ensures in (
         omega (arith, k .second .low, c .before .before .before .before .before .before .before .before .before .before .before .before .before .pre .0),
-        room-and-second (c .before .before .before .before .before .before .before .before .before .before .before .before .before .pre .1) k u v u′ (omega (arith, u, built-from v .free-to, u′)) (c .before .before .before .before .build4 .kept .1 .1 .1 .1 .1 .0),
+        room-and-second m k u v u′ (omega (arith, m .taken, u, by-numbers v .free-to)) (omega (arith, m .taken, u, by-numbers v .free-to, u′)) (c .before .before .before .before .build4 .kept .1 .1 .1 .1 .1 .0),
       )
 
   append-requires-4 : build-lts.Need-append-requires-4 (claims t) (build-at t) build.Post
   append-requires-4 c κs = room-toffoli (c .before .before .before .before .before .before .before .before .before .before .before .before .before .before .before .before .before .pre .1) (as-and (c .before .before .before .before .before .before .before .before .before .before .before .before)) (c .before .before .before .before .before .before .before .before .before .before .take-line .ensures) (c .before .before .before .before .before .before .before .before .build4 .ensures) (c .before .before .before .before .before .take-line2 .ensures) (c .before .before .before .build5 .ensures) (c .before .before .before .build5 .kept .1 .1 .1 .1 .1 .0 ∙ c .before .before .before .before .before .before .before .before .build4 .kept .1 .1 .1 .1 .1 .0)
 
   returns : build-lts.Need-returns (claims t) (build-at t) build.Post
-  returns c = rw (as-zero c) (built-into (built-zero _ _ _))
+  returns c = rw (as-zero (c .before)) (built-zero _ _ _ _ (free-low (c .before .before .before .before .before .before .pre .1)) (c .progress .ensures))
 
   same-length : build-lts.Need-same-length (claims t) (build-at t) build.Post
   same-length c = search needs
 
   returns-2 : build-lts.Need-returns-2 (claims t) (build-at t) build.Post
-  returns-2 c = rw (as-one (c .before .before .before .before)) (built-into (built-one (c .before .before .append .ensures)))
+  returns-2 c = rw (as-one (c .before .before .before .before)) (built-one (c .before .before .append .ensures))
 
   same-length-2 : build-lts.Need-same-length-2 (claims t) (build-at t) build.Post
   same-length-2 c = search needs
 
   returns-3 : build-lts.Need-returns-3 (claims t) (build-at t) build.Post
-  returns-3 c = rw (as-input (c .before .before .before .before .before)) (built-into (built-input (c .before .before .append2 .ensures)))
+  returns-3 c = rw (as-input (c .before .before .before .before .before)) (built-input (c .before .before .append2 .ensures))
 
   same-length-3 : build-lts.Need-same-length-3 (claims t) (build-at t) build.Post
   same-length-3 c = search needs
 
   returns-4 : build-lts.Need-returns-4 (claims t) (build-at t) build.Post
-  returns-4 c = rw (as-not (c .before .before .before .before .before .before .before .before .before) .is) (built-into (built-not (c .before .before .before .before .before .before .append3 .ensures) (built-from (c .before .before .build .ensures))))
+  returns-4 c = rw (as-not (c .before .before .before .before .before .before .before .before .before) .is) (built-not (c .before .before .before .before .before .before .append3 .ensures) (c .before .before .build .ensures))
 
   same-length-4 : build-lts.Need-same-length-4 (claims t) (build-at t) build.Post
   same-length-4 c = search needs
 
   returns-5 : build-lts.Need-returns-5 (claims t) (build-at t) build.Post
-  returns-5 c = rw (as-xor (c .before .before .before .before .before .before .before .before .before) .is) (built-into (built-xor (built-from (c .before .before .before .before .before .before .build2 .ensures)) (built-from (c .before .before .build3 .ensures))))
+  returns-5 c = rw (as-xor (c .before .before .before .before .before .before .before .before .before) .is) (built-xor (c .before .before .before .before .before .before .build2 .ensures) (c .before .before .build3 .ensures))
 
   same-length-5 : build-lts.Need-same-length-5 (claims t) (build-at t) build.Post
   same-length-5 c = search needs
 
   returns-6 : build-lts.Need-returns-6 (claims t) (build-at t) build.Post
-  returns-6 c = rw (as-and (c .before .before .before .before .before .before .before .before .before .before .before .before .before .before .before) .is) (built-into (built-and (c .before .before .before .before .before .before .before .before .before .before .before .before .before .take-line .ensures) (built-from (c .before .before .before .before .before .before .before .before .before .before .before .build4 .ensures)) (c .before .before .before .before .before .before .before .before .take-line2 .ensures) (built-from (c .before .before .before .before .before .before .build5 .ensures)) (c .before .before .append4 .ensures)))
+  returns-6 c = rw (as-and (c .before .before .before .before .before .before .before .before .before .before .before .before .before .before .before) .is) (built-and (c .before .before .before .before .before .before .before .before .before .before .before .before .before .take-line .ensures) (c .before .before .before .before .before .before .before .before .before .before .before .build4 .ensures) (c .before .before .before .before .before .before .before .before .take-line2 .ensures) (c .before .before .before .before .before .before .build5 .ensures) (c .before .before .append4 .ensures))
 
 pub +build-spec : {M : Type 1} → statement M
 +build-spec =
@@ -203,6 +205,7 @@ pub +build-spec : {M : Type 1} → statement M
     build.Post
     (node-at-requires t)
     (enum-told t)
+    (progress-requires t)
     (enum-told-2 t)
     (append-requires t)
     (enum-known-node t)
@@ -210,6 +213,7 @@ pub +build-spec : {M : Type 1} → statement M
     (enum-known-node-2 t)
     (append-requires-3 t)
     (cast-build t)
+    (add-build t)
     (build-requires t)
     (enum-known-node-3 t)
     (cast-build-2 t)

@@ -6,12 +6,12 @@ use lib.ListN.{length}
 use lib.Seq.{length-take-le}
 use denote.Ref.{now}
 use Rattle.wire.proofs.FillLaws.{Filled, filled-start}
-use Rattle.program.specs.Nodes.{nodesIn}
-use Rattle.program.specs.Programs.{nodeValues}
+use Rattle.node.specs.Nodes.{nodesIn}
+use Rattle.node.specs.Trees.{nodeValues}
 use Rattle.evaluate.proofs.FillLaws.{front-bits}
-use Rattle.program.specs.Exprs.{value}
-use Rattle.program.proofs.FilledLaws.{entry-stored, entries-stored}
-use Rattle.program.proofs.TreeLaws.{next-ok}
+use Rattle.node.specs.Exprs.{value}
+use Rattle.node.proofs.FilledLaws.{entry-stored, entries-stored}
+use Rattle.node.proofs.TreeLaws.{next-ok}
 use Rattle.evaluate.proofs.values.fill_values.Statement.{statement}
 use Rattle.evaluate.proofs.values.fill_values.Tie as tie
 

@@ -1,9 +1,6 @@
-use mathlib.Core.Path.{refl}
-use Rattle.program.specs.Exprs.{value}
-use Rattle.program.specs.Trees.{treeOf}
-use Rattle.program.proofs.ValueLaws.{value-not, value-xor, value-and}
+use Rattle.node.proofs.ValueLaws.{next-zero, next-one, next-input, next-not, next-xor, next-and}
 use native.Mathlib.Omega.{arith}
-use Rattle.program.proofs.NodeLaws.{input-below, not-operand, xor-operands, and-operands}
+use Rattle.node.proofs.NodeLaws.{input-below, not-operand, xor-operands, and-operands}
 use borrow.Author.Needs.{needs}
 use Rattle.evaluate.proofs.values.node_value.Statement.{statement}
 use Rattle.evaluate.proofs.values.node_value.Tie as tie
@@ -86,31 +83,28 @@ and-bits-requires c κs =
     (omega (arith, bits _ (o .0), bits _ (o .1)), omega (arith, bits _ (o .0), bits _ (o .1)))
 
 returns : tie.Need-returns
-unfolding treeOf value
-returns c ts e = rw (c .enum-told .given .1) refl
+returns c ts e = rw (c .enum-told .given .1) (next-zero _ _ ts e)
 
 returns-2 : tie.Need-returns-2
-unfolding treeOf value
-returns-2 c ts e = rw (c .enum-told2 .given .1) refl
+returns-2 c ts e = rw (c .enum-told2 .given .1) (next-one _ _ ts e)
 
 returns-3 : tie.Need-returns-3
-unfolding treeOf value
-returns-3 c ts e = rw (c .before .before .node .given .1) refl
+returns-3 c ts e = rw (c .before .before .node .given .1) (next-input _ _ _ ts e)
 
 returns-4 : tie.Need-returns-4
 returns-4 c ts e =
     let o = c .before .before .before .node2 .given in
-    rw (o .1) (value-not _ ts e (o .0 .0) (c .xor-bits .ensures))
+    rw (o .1) (next-not _ (o .0 .0) (c .xor-bits .ensures) ts e)
 
 returns-5 : tie.Need-returns-5
 returns-5 c ts e =
     let o = c .before .before .before .before .node3 .given in
-    rw (o .1) (value-xor _ ts e (o .0 .0) (o .0 .1 .0) (c .xor-bits2 .ensures))
+    rw (o .1) (next-xor _ (o .0 .0) (o .0 .1 .0) (c .xor-bits2 .ensures) ts e)
 
 returns-6 : tie.Need-returns-6
 returns-6 c ts e =
     let o = c .before .before .before .before .node4 .given in
-    rw (o .1) (value-and _ ts e (o .0 .0) (o .0 .1 .0) (c .and-bits .ensures))
+    rw (o .1) (next-and _ (o .0 .0) (o .0 .1 .0) (c .and-bits .ensures) ts e)
 
 pub node-value-spec : {M : Type 1} → statement M
 node-value-spec =

@@ -6,9 +6,10 @@ use mathlib.Core.List.{List}
 use lib.ListN.{length}
 use lib.Dec.{eqb, leb}
 use borrow.Author.Tests.{eq-eqb, ne-eqb, le-leb, lt-leb}
+use Rattle.wire.specs.Limits.{mostNodes}
 use Rattle.wire.specs.Bytes.{at16}
-use Rattle.wire.specs.Contents.{entryLength}
-use Rattle.wire.proofs.ContentsLaws.{body-there}
+use Rattle.contents.specs.Contents.{entryLength}
+use Rattle.contents.proofs.ContentsLaws.{body-there}
 use Rattle.program.specs.Reading.{nodesOf, lengthsFit}
 use Rattle.program.proofs.ReadingLaws.{head-long}
 use borrow.Author.Needs.{needs}
@@ -16,8 +17,8 @@ use Rattle.program.proofs.reader.lengths_fit.Statement.{statement}
 use Rattle.program.proofs.reader.lengths_fit.Tie as tie
 use Rattle.program.proofs.reader.lengths_fit.Reads as reads
 use Rattle.program.proofs.reader.lengths_fit.Lts as lts
-use Rattle.wire.proofs.contents.body.Reads as body-reads
-use Rattle.wire.proofs.contents.entry_length.Reads as entry-length-reads
+use Rattle.contents.proofs.reader.body.Reads as body-reads
+use Rattle.contents.proofs.reader.entry_length.Reads as entry-length-reads
 use Rattle.wire.proofs.numbers.get16.Reads as get16-reads
 
 abbrev claims : lts.Claims
@@ -40,8 +41,8 @@ sixes c = eq-eqb _ _ (ap (λ (x : ℕ). x % 6) (sym (c .before .entry-length2 .e
 some : (c : lts.Else3 claims reads.Pre reads.Post) → leb 1 (nodesOf (c .before .before .before .before .before .before .args .file .now)) ≡ true
 some c = le-leb 1 (nodesOf (c .before .before .before .before .before .before .args .file .now)) (omega (arith, c .before .before .entry-length2 .ensures, c .if3 .left))
 
-most : (c : lts.Else4 claims reads.Pre reads.Post) → leb (nodesOf (c .before .before .before .before .before .before .before .args .file .now)) 4096 ≡ true
-most c = le-leb (nodesOf (c .before .before .before .before .before .before .before .args .file .now)) 4096 (omega (arith, c .before .before .before .entry-length2 .ensures, c .if4 .left))
+most : (c : lts.Else4 claims reads.Pre reads.Post) → leb (nodesOf (c .before .before .before .before .before .before .before .args .file .now)) mostNodes ≡ true
+most c = le-leb (nodesOf (c .before .before .before .before .before .before .before .args .file .now)) mostNodes (omega (arith, c .before .before .before .entry-length2 .ensures, c .if4 .left))
 
 entry-length-requires : tie.Need-entry-length-requires
 entry-length-requires c κs = search needs
@@ -52,6 +53,9 @@ returns c = simp (ne-eqb _ _ (λ e. c .if1 .taken (c .before .entry-length .ensu
 
 entry-length-requires-2 : tie.Need-entry-length-requires-2
 entry-length-requires-2 c κs = search needs
+
+cast-nodes : tie.Need-cast-nodes
+cast-nodes c = search needs
 
 returns-2 : tie.Need-returns-2
 unfolding lengthsFit
@@ -67,7 +71,7 @@ returns-4 : tie.Need-returns-4
 unfolding lengthsFit
 returns-4 c =
     let f = c .before .before .before .before .before .before .before .args .file .now in
-    simp (four (c .before .before .before .before), sixes (c .before .before), some (c .before), lt-leb (nodesOf f) 4096 (omega (arith, c .before .before .before .entry-length2 .ensures, c .if4 .taken)))
+    simp (four (c .before .before .before .before), sixes (c .before .before), some (c .before), lt-leb (nodesOf f) mostNodes (omega (arith, c .before .before .before .entry-length2 .ensures, c .if4 .taken)))
 
 body-requires : tie.Need-body-requires
 body-requires c κs = body-there (c .before .before .before .before .before .before .before .pre) 0 (omega arith)
@@ -97,6 +101,7 @@ lengths-fit-spec =
     entry-length-requires
     returns
     entry-length-requires-2
+    cast-nodes
     returns-2
     returns-3
     returns-4

@@ -1,5 +1,5 @@
 use native.Mathlib.Omega.{arith}
-use Rattle.wire.proofs.ContentsLaws.{body-there}
+use Rattle.contents.proofs.ContentsLaws.{body-there}
 use Rattle.program.proofs.reader.output_body.Statement.{statement}
 use Rattle.program.proofs.reader.output_body.Tie as tie
 

@@ -1,8 +1,8 @@
 use native.Mathlib.Omega.{arith}
 use mathlib.Core.Path.{ap, _∙_}
 use lib.ListN.{length}
-use Rattle.wire.specs.Arity.{arityFits}
-use Rattle.wire.proofs.ContentsLaws.{body-there}
+use Rattle.contents.specs.Arity.{arityFits}
+use Rattle.contents.proofs.ContentsLaws.{body-there}
 use Rattle.program.proofs.ReadingLaws.{head-long}
 use Rattle.program.proofs.reader.ranges_fit.Statement.{statement}
 use Rattle.program.proofs.reader.ranges_fit.Tie as tie

@@ -5,14 +5,14 @@ use mathlib.Core.Bool.{true}
 use mathlib.Core.List.{List}
 use lib.ListN.{length}
 use borrow.Author.Tests.{eq-eqb, ne-eqb}
-use Rattle.wire.specs.Answers.{refused}
+use Rattle.refusal.specs.Answers.{refused}
 use Rattle.wire.specs.Bytes.{at16}
-use Rattle.wire.specs.Checks.{lowest}
-use Rattle.wire.specs.Contents.{bodyOf}
-use Rattle.wire.specs.Steps.{Laid}
-use Rattle.program.specs.Nodes.{nodeFits}
-use Rattle.wire.proofs.ContentsLaws.{body-there}
-use Rattle.wire.specs.Arity.{inputsOf, outputsOf}
+use Rattle.refusal.specs.Checks.{lowest}
+use Rattle.contents.specs.Contents.{bodyOf}
+use Rattle.contents.specs.Arity.{inputsOf, outputsOf}
+use Rattle.contents.specs.Steps.{Laid}
+use Rattle.node.specs.Nodes.{nodeFits}
+use Rattle.contents.proofs.ContentsLaws.{body-there}
 use Rattle.program.specs.Reading.{nodesOf, lengthsFit, outputFits, programOf, readBodies}
 use Rattle.program.proofs.ReadingLaws.{Sized, sized, head-long, nodes-lowest, outputs-lowest, head-of}
 use borrow.Author.Needs.{needs}
@@ -24,8 +24,8 @@ use Rattle.program.proofs.reader.node_body.Reads as node-body-reads
 use Rattle.program.proofs.reader.output_body.Reads as output-body-reads
 use Rattle.program.proofs.reader.read_nodes.Reads as read-nodes-reads
 use Rattle.program.proofs.reader.read_outputs.Reads as read-outputs-reads
-use Rattle.wire.proofs.contents.body.Reads as body-reads
-use Rattle.wire.proofs.contents.entry_length.Reads as entry-length-reads
+use Rattle.contents.proofs.reader.body.Reads as body-reads
+use Rattle.contents.proofs.reader.entry_length.Reads as entry-length-reads
 use Rattle.wire.proofs.numbers.get16.Reads as get16-reads
 
 abbrev claims : lts.Claims

@@ -3,9 +3,9 @@ use borrow.Author.Needs.{needs}
 use Prim.Native.Nat.{_-_, _/_}
 use mathlib.Core.Path.{sym, _∙_}
 use lib.ListN.{length}
-use Rattle.wire.proofs.CheckLaws.{Passed, passed-start, passed-next, passed-fails, passed-all}
-use Rattle.program.specs.Nodes.{nodeFits}
-use Rattle.program.proofs.NodeLaws.{read-good, read-bad, read-index}
+use Rattle.refusal.proofs.CheckLaws.{Passed, passed-start, passed-next, passed-fails, passed-all}
+use Rattle.node.specs.Nodes.{nodeFits}
+use Rattle.node.proofs.NodeLaws.{read-good, read-bad, read-index}
 use Rattle.program.proofs.reader.read_nodes.Statement.{statement}
 use Rattle.program.proofs.reader.read_nodes.Tie as tie
 

@@ -4,7 +4,7 @@ use borrow.Author.Needs.{needs}
 use Prim.Native.Nat.{_-_, _/_}
 use mathlib.Core.Path.{sym}
 use lib.ListN.{length}
-use Rattle.wire.proofs.CheckLaws.{Passed, passed-start, passed-next, passed-fails, passed-all}
+use Rattle.refusal.proofs.CheckLaws.{Passed, passed-start, passed-next, passed-fails, passed-all}
 use Rattle.program.specs.Reading.{outputAt, outputFits}
 use Rattle.program.proofs.reader.read_outputs.Statement.{statement}
 use Rattle.program.proofs.reader.read_outputs.Tie as tie

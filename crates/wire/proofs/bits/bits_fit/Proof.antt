@@ -2,14 +2,14 @@ use mathlib.Core.Path.{_≡_}
 use mathlib.Core.Bool.{Bool}
 use mathlib.Core.List.{List}
 use native.Mathlib.Omega.{arith}
-use Rattle.wire.specs.Checks.{lowest}
+use Rattle.refusal.specs.Checks.{lowest}
 use Prim.Native.Nat.{ℕ, _-_}
 use lib.ListN.{length}
 use lib.Dec.{ltb}
 use borrow.Author.Needs.{needs}
 use borrow.Author.Tests.{lt-ltb, le-ltb, eq-eqb, ne-eqb}
 use Rattle.wire.specs.Bits.{bit, bitsFit}
-use Rattle.wire.proofs.CheckLaws.{Passed, passed-start, passed-next, passed-fails, passed-all}
+use Rattle.refusal.proofs.CheckLaws.{Passed, passed-start, passed-next, passed-fails, passed-all}
 use Rattle.wire.proofs.bits.bits_fit.Statement.{statement}
 use Rattle.wire.proofs.bits.bits_fit.Tie as tie
 

@@ -1,0 +1,4 @@
+pub mod AreaLaws
+pub mod OutcomeLaws
+pub mod TableLaws
+pub mod WriterLaws

@@ -1,0 +1,2 @@
+pub mod AreaGates
+pub mod Tables

@@ -1,0 +1,6 @@
+pub mod AcceptedCase
+pub mod AcceptedLaws
+pub mod DemandLaws
+pub mod DemandSaysLaws
+pub mod OutputLaws
+pub mod ProgramLaws

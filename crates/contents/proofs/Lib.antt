@@ -1,0 +1,2 @@
+pub mod ContentsLaws
+pub mod WrittenLaws

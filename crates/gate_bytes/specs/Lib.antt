@@ -1,0 +1,2 @@
+pub mod GateBytes
+pub mod Steps

@@ -1,0 +1,3 @@
+pub mod CaseLaws
+pub mod DigitLaws
+pub mod PutLaws

@@ -1,0 +1,3 @@
+pub mod CaseLaws
+pub mod CompiledLaws
+pub mod PrintedLaws

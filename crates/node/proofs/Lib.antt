@@ -1,0 +1,5 @@
+pub mod FilledLaws
+pub mod NodeLaws
+pub mod TreeLaws
+pub mod ValueLaws
+pub mod WrittenLaws

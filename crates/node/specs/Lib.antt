@@ -1,0 +1,5 @@
+pub mod Exprs
+pub mod NodeBytes
+pub mod Nodes
+pub mod Steps
+pub mod Trees

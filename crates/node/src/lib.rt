@@ -1,0 +1,2 @@
+// Nodes: their six bytes in a program file, and what a node means.
+pub mod nodes;

@@ -1,0 +1,2 @@
+pub mod ShareLoop
+pub mod WriteLaws

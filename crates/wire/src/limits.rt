@@ -1,0 +1,22 @@
+// The limits of files and programs, one name each.
+
+// The most inputs that a file may have.
+pub const MOST_INPUTS: u16 = 64;
+
+// The most outputs.
+pub const MOST_OUTPUTS: u16 = 64;
+
+// The most work lines, of a circuit and of a grant.
+pub const MOST_WORK: u64 = 1024;
+
+// The most nodes of a program.
+pub const MOST_NODES: usize = 4096;
+
+// The most gates of a circuit.
+pub const MOST_GATES: usize = 8000;
+
+// The largest unfolded size of an output.
+pub const MOST_SIZE: u16 = 16384;
+
+// What the size list shows for every size above that.
+pub const TOO_LARGE: u16 = MOST_SIZE + 1;

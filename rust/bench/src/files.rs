@@ -1,0 +1,117 @@
+//! Files for the services, drawn at random: those of one function are alike in size and differ in
+//! every node or gate, so that the processor cannot learn the branches of one by heart.
+
+use agreement::circuit::{cnot, not, toffoli, Circuit};
+use agreement::compare::compile::needs;
+use agreement::compare::{MOST_NODES, NO_GATES};
+use agreement::program::{self, and, input, xor, Node, Program};
+use agreement::random::Random;
+
+/// The number of inputs of every program and circuit here.
+pub const INPUTS: usize = 64;
+
+/// The number of lines of every circuit here, the most that there can be.
+pub const LINES: usize = 1152;
+
+/// 4,096 nodes of all kinds, and 64 outputs.
+pub fn of_all_kinds(random: &mut Random) -> Vec<u8> {
+    program::of_size(random, INPUTS, 64, MOST_NODES).bytes()
+}
+
+/// 4,096 nodes, NOT, XOR and AND of inputs, and 64 outputs of 2 gates, each a NOT or a XOR.
+pub fn small_outputs(random: &mut Random) -> Vec<u8> {
+    let mut nodes = inputs();
+    let mut of_two_gates = Vec::new();
+    while nodes.len() < MOST_NODES {
+        let [a, b] = [(); 2].map(|()| an_input(random));
+        let node = random.pick(&[program::not(a), xor(a, b), and(a, b)]);
+        if node.kind != and(a, b).kind {
+            of_two_gates.push(nodes.len() as u16);
+        }
+        nodes.push(node);
+    }
+    let outputs: Vec<u16> = (0..64).map(|_| random.pick(&of_two_gates)).collect();
+    with_gates(128, &nodes, &outputs)
+}
+
+/// An output for each 125 gates, with a tree of 31 ANDs of its own.
+pub fn and_trees(random: &mut Random, gates: usize) -> Vec<u8> {
+    let mut nodes = inputs();
+    let outputs: Vec<u16> =
+        (0..gates / 125).map(|_| add_tree(random, &mut nodes, and, 32)).collect();
+    with_gates(gates, &nodes, &outputs)
+}
+
+/// One output of 8,000 gates: a tree of 1,999 XORs, which is built four times.
+pub fn xor_tree(random: &mut Random) -> Vec<u8> {
+    let mut nodes = inputs();
+    let root = add_tree(random, &mut nodes, xor, 2000);
+    let output = four_times(&mut nodes, root);
+    with_gates(8000, &nodes, &[output])
+}
+
+/// 64 outputs of size 16,384: NOT of a tree of 2,047 XORs, which is counted four times for each.
+pub fn largest_outputs(random: &mut Random) -> Vec<u8> {
+    let mut nodes = inputs();
+    let root = add_tree(random, &mut nodes, xor, 2048);
+    let below = four_times(&mut nodes, root);
+    let output = add(&mut nodes, program::not(below));
+    with_gates(64 * 8193, &nodes, &[output; 64])
+}
+
+/// So many gates of all kinds on any lines.
+pub fn circuit(random: &mut Random, gates: usize) -> Vec<u8> {
+    let mut circuit = Circuit::new(INPUTS as u16, 64, 1024, &[]);
+    while circuit.gates.len() < gates {
+        let [a, b, t] = [(); 3].map(|()| random.below(LINES) as u16);
+        if a != b && a != t && b != t {
+            circuit.gates.push(random.pick(&[not(t), cnot(a, t), toffoli(a, b, t)]));
+        }
+    }
+    assert_eq!(circuit.lines(), LINES);
+    circuit.bytes()
+}
+
+/// Every input as a node: input j is node j.
+fn inputs() -> Vec<Node> {
+    (0..INPUTS as u16).map(input).collect()
+}
+
+fn an_input(random: &mut Random) -> u16 {
+    random.below(INPUTS) as u16
+}
+
+/// Adds a node, and gives its number.
+fn add(nodes: &mut Vec<Node>, node: Node) -> u16 {
+    nodes.push(node);
+    nodes.len() as u16 - 1
+}
+
+/// Adds a random tree of such nodes over so many random inputs, and gives the number of its root.
+fn add_tree(
+    random: &mut Random,
+    nodes: &mut Vec<Node>,
+    of: fn(u16, u16) -> Node,
+    leaves: usize,
+) -> u16 {
+    let mut roots: Vec<u16> = (0..leaves).map(|_| an_input(random)).collect();
+    while roots.len() > 1 {
+        let [a, b] = [(); 2].map(|()| roots.swap_remove(random.below(roots.len())));
+        roots.push(add(nodes, of(a, b)));
+    }
+    roots[0]
+}
+
+/// The XOR of four times a node.
+fn four_times(nodes: &mut Vec<Node>, node: u16) -> u16 {
+    let twice = add(nodes, xor(node, node));
+    add(nodes, xor(twice, twice))
+}
+
+/// The file of a program whose circuit has so many gates.
+fn with_gates(gates: usize, nodes: &[Node], outputs: &[u16]) -> Vec<u8> {
+    let file = Program::new(INPUTS as u16, nodes, outputs).bytes();
+    let bytes = needs(&file).map(|(_, bytes)| bytes);
+    assert_eq!(bytes, Some(NO_GATES + 8 * gates), "a program of {gates} gates");
+    file
+}
