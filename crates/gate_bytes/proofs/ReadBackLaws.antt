@@ -11,9 +11,9 @@ use lib.Dec.{eqb}
 use borrow.Author.Tests.{eqb-true}
 use Rattle.wire.specs.Bytes.{at16, Bytes}
 use Rattle.wire.specs.Lists.{tabulate}
-use Rattle.wire.proofs.ByteLaws.{number16, drop16}
+use Rattle.wire.proofs.ByteLaws.{number16, drop16, drop-fields}
 use Rattle.refusal.proofs.CheckLaws.{both-first, both-second, by-test}
-use Rattle.wire.proofs.ListLaws.{drop-next, tabulate-length, tabulate-at, flat-only}
+use Rattle.wire.proofs.ListLaws.{tabulate-length, tabulate-at, flat-only}
 use Rattle.gate.specs.declared.gates.Gate.{Gate}
 use Rattle.gate.specs.declared.gates.Gate.the-variants.{Not, Cnot, Toffoli}
 use Rattle.gate.specs.Gates.{wellFormed, WellFormed, All}
@@ -110,22 +110,8 @@ module _ (L : ℕ) (body : List ℕ) where
       let b : ℕ = at16 body (8 * i + 4) in
       let t : ℕ = at16 body (8 * i + 6) in
       let fit : fieldsFit kind blank a b ≡ true = both-first (fieldsFit kind blank a b) (wellFormed L (gateAt body i)) e in
-      let two : 8 * i + 1 + 1 ≡ 8 * i + 2 = omega arith in
-      let four : 8 * i + 2 + 2 ≡ 8 * i + 4 = omega arith in
-      let six : 8 * i + 4 + 2 ≡ 8 * i + 6 = omega arith in
       let eight : 8 * i + 6 + 2 ≡ 8 * i + 8 = omega arith in
-      rw (
-        drop-next body (8 * i) 0 (omega arith),
-        drop-next body (8 * i + 1) 0 (omega arith),
-        two,
-        only-blank kind blank a b fit,
-        drop16 body bytes (8 * i + 2) (omega arith),
-        four,
-        drop16 body bytes (8 * i + 4) (omega arith),
-        six,
-        drop16 body bytes (8 * i + 6) (omega arith),
-        eight,
-      )
+      rw (drop-fields body bytes (8 * i) (omega arith), only-blank kind blank a b fit, drop16 body bytes (8 * i + 6) (omega arith), eight)
       (ap (λ (s : List ℕ). s ++ drop (8 * i + 8) body) (only-fields kind blank a b fit t))
 
   -- bytes whose gates are in order are the writing of those gates

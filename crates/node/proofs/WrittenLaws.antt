@@ -11,8 +11,8 @@ use lib.Dec.{eqb, ltb}
 use borrow.Author.Tests.{eqb-true, eqb-false, lt-leb, lt-ltb}
 use Rattle.wire.specs.Bytes.{at16, Bytes}
 use Rattle.wire.specs.Lists.{tabulate}
-use Rattle.wire.proofs.ByteLaws.{number16, drop16}
-use Rattle.wire.proofs.ListLaws.{drop-next, tabulate-length, tabulate-at, flat-length, flat-drop, flat-only}
+use Rattle.wire.proofs.ByteLaws.{number16, drop-fields}
+use Rattle.wire.proofs.ListLaws.{tabulate-length, tabulate-at, flat-length, flat-drop, flat-only}
 use Rattle.refusal.proofs.CheckLaws.{both-first, both-second, by-test}
 use Rattle.node.specs.declared.nodes.Node.{Node}
 use Rattle.node.specs.declared.nodes.Node.the-variants.{Zero, One, Input, Not, Xor, And}
@@ -142,19 +142,7 @@ module _ (n : ℕ) (body : List ℕ) (bytes : Bytes body) where
       let a : ℕ = at16 body (6 * i + 2) in
       let b : ℕ = at16 body (6 * i + 4) in
       let right : operandsFit n i kind a b ≡ true = both-second (eqb blank 0) (operandsFit n i kind a b) e in
-      let two : 6 * i + 1 + 1 ≡ 6 * i + 2 = omega arith in
-      let four : 6 * i + 2 + 2 ≡ 6 * i + 4 = omega arith in
-      let six : 6 * i + 4 + 2 ≡ 6 * i + 6 = omega arith in
-      rw (
-        drop-next body (6 * i) 0 (omega arith),
-        drop-next body (6 * i + 1) 0 (omega arith),
-        two,
-        eqb-true blank 0 (both-first (eqb blank 0) (operandsFit n i kind a b) e),
-        drop16 body bytes (6 * i + 2) (omega arith),
-        four,
-        drop16 body bytes (6 * i + 4) (omega arith),
-        six,
-      )
+      rw (drop-fields body bytes (6 * i) h, eqb-true blank 0 (both-first (eqb blank 0) (operandsFit n i kind a b) e))
       (ap (λ (s : List ℕ). s ++ drop (6 * i + 6) body) (only-fields n i kind a b right))
 
   -- bytes whose nodes are in order are the writing of those nodes

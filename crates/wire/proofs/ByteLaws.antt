@@ -89,10 +89,6 @@ pub at16-in : (pre rest : List ℕ) (v : ℕ) → v < 65536 → at16 (pre ++ (by
 at16-in pre rest v h =
     ap (at16 (pre ++ (bytes16 v ++ rest))) (sym (add-zero (length pre))) ∙ at16-after pre (bytes16 v ++ rest) 0 ∙ number16 v h
 
-pub at32-in : (pre rest : List ℕ) (v : ℕ) → v < 4294967296 → at32 (pre ++ (bytes32 v ++ rest)) (length pre) ≡ v
-at32-in pre rest v h =
-    ap (at32 (pre ++ (bytes32 v ++ rest))) (sym (add-zero (length pre))) ∙ at32-after pre (bytes32 v ++ rest) 0 ∙ number32 v h
-
 -- where a number is read, its bytes stand
 drop-two : (s : List ℕ) (k : ℕ) → k + 2 ≤ length s → drop k s ≡ getD s k 0 ∷ getD s (k + 1) 0 ∷ drop (k + 2) s
 drop-two s k g =
@@ -108,3 +104,10 @@ drop32 s h k g =
     let f : k + 2 + 2 ≡ k + 4 = omega arith in
     rw (drop-two s k (omega arith), drop-two s (k + 2) (omega arith), e, f)
     (ap (λ (r : List ℕ). r ++ drop (k + 4) s) (sym (split32 _ _ _ _ (byte-below s h k) (byte-below s h (k + 1)) (byte-below s h (k + 2)) (byte-below s h (k + 3)))))
+
+-- two bytes and two numbers, with which a node and a gate open
+pub drop-fields : (s : List ℕ) → Bytes s → (k : ℕ) → k + 6 ≤ length s → drop k s ≡ getD s k 0 ∷ getD s (k + 1) 0 ∷ (bytes16 (at16 s (k + 2)) ++ (bytes16 (at16 s (k + 4)) ++ drop (k + 6) s))
+drop-fields s h k g =
+    let four : k + 2 + 2 ≡ k + 4 = omega arith in
+    let six : k + 4 + 2 ≡ k + 6 = omega arith in
+    rw (drop-two s k (omega arith), drop16 s h (k + 2) (omega arith), four, drop16 s h (k + 4) (omega arith), six)
