@@ -69,6 +69,24 @@ oracle_answer oracle_evaluate(const uint8_t *file, size_t file_length,
                               const uint8_t *inputs, size_t inputs_length,
                               uint64_t output);
 
+/* Quotes a program file: how many gates, Toffolis and work lines the share of each output has,
+ * without building it. Whatever oracle_compile refuses with 8 to 11 is quoted too.
+ *
+ * counts   eight numbers for each node at least; 32,768 are always enough. After a result they are
+ *          zero over the nodes, and the numbers behind are as they were. After a refusal all of it
+ *          is.
+ * answers  three numbers for each output at least; 192 are always enough. After a result, numbers
+ *          3 k, 3 k + 1 and 3 k + 2 are the gates, the Toffolis and the work lines of output k, each
+ *          as 1,000,001 where it is above 1,000,000, and the numbers behind are as they were. After
+ *          a refusal all of it is.
+ *
+ * Both lengths are in numbers. Result: value is the number of outputs. Refusals: 1 to 7. The file is
+ * only read.
+ */
+oracle_answer oracle_quote(const uint8_t *file, size_t file_length,
+                           uint64_t *counts, size_t counts_length,
+                           uint64_t *answers, size_t answers_length);
+
 /* Compiles a program file to the circuit file that computes its outputs.
  *
  * grant   the number of work lines that the circuit may take, at most 1,024.
@@ -86,7 +104,7 @@ oracle_answer oracle_evaluate(const uint8_t *file, size_t file_length,
  * short for them. The program file is only read.
  *
  * Stack: the construction calls itself, up to 4,096 deep. The deepest programs that were tried took
- * 790,528 bytes; lend a thread at least 2 MiB.
+ * 724,992 bytes; lend a thread at least 2 MiB.
  */
 oracle_answer oracle_compile(const uint8_t *file, size_t file_length, uint64_t grant,
                              uint16_t *sizes, size_t sizes_length,

@@ -5,6 +5,7 @@ use circuit::reader::CircuitRead;
 use compile::Compiled;
 use evaluate::Evaluated;
 use program::reader::ProgramRead;
+use quote::Quoted;
 use refusal::causes::Refusal;
 use run::Ran;
 use undo::Undone;
@@ -18,6 +19,7 @@ ghost use Rattle.circuit.specs.Reading.{circuitRead};
 ghost use Rattle.run.specs.RunCircuit.{ran};
 ghost use Rattle.undo.specs.UndoCircuit.{undone};
 ghost use Rattle.compile.specs.Answers.{compiled};
+ghost use Rattle.quote.specs.Answers.{quoted};
 ghost use Rattle.abi.specs.Exported.{exported, exportedHead};
 ghost use Rattle.abi.specs.Steps.{programNumbers, circuitNumbers, fileBytes, FewGates};
 
@@ -105,6 +107,19 @@ pub fn evaluate_answer(answer: Evaluated) -> OracleAnswer
             value: bit as u64,
         },
         Evaluated::Refused(why) => refusal(why),
+    }
+}
+
+// What quoting answers; the value of a result is the number of outputs.
+pub fn quote_answer(answer: Quoted) -> OracleAnswer
+    ensures { λ r. ⌜ r ≡ exported (quoted answer) ⌝ }
+{
+    match answer {
+        Quoted::Outputs(outputs) => OracleAnswer {
+            number: 0,
+            value: outputs,
+        },
+        Quoted::Refused(why) => refusal(why),
     }
 }
 

@@ -3,7 +3,7 @@ use Prim.Native.Nat.{ℕ, _/_, _<_, _≤_}
 use native.Mathlib.Omega.{arith}
 use mathlib.Core.Path.{_≡_, sym, ap, ap₂, _∙_}
 use mathlib.Core.List.{List}
-use lib.ListN.{length, getD}
+use lib.ListN.{length}
 use Rattle.wire.specs.Limits.{mostGates, mostOutputs, mostSize, mostWork}
 use Rattle.contents.specs.Contents.{bodyOf}
 use Rattle.contents.specs.Arity.{inputsOf}
@@ -12,14 +12,13 @@ use Rattle.wire.proofs.ListLaws.{tabulate-same}
 use Rattle.circuit.specs.declared.reader.CircuitHead.{CircuitHead}
 use Rattle.circuit.specs.Circuits.{InRange}
 use Rattle.circuit.specs.Format.{fileLength}
-use Rattle.node.specs.declared.nodes.Node.{Node}
-use Rattle.node.specs.Exprs.{Expr, ZERO, size}
-use Rattle.node.specs.Nodes.{nodesIn, TableOk}
+use Rattle.node.specs.Exprs.{Expr, size}
 use Rattle.program.specs.Programs.{outputTree}
 use Rattle.program.specs.Reading.{outputAt, programOf}
 use Rattle.node.specs.Trees.{trees}
-use Rattle.program.proofs.AcceptedLaws.{Accepted, same-nodes, outputs-length, output-is, table-ok, inputs-is}
-use Rattle.program.proofs.ReadingLaws.{nodes-counted, outputs-counted}
+use Rattle.program.proofs.AcceptedLaws.{Accepted, inputs-is}
+use Rattle.program.proofs.BodyLaws.{outputs-count, names-node, nodes-ordered, named-tree}
+use Rattle.program.proofs.ReadingLaws.{outputs-counted}
 use Rattle.construction.specs.Construction.{circuitGates, linesNeeded}
 use Rattle.construction.specs.Counting.{gatesShown}
 use Rattle.construction.specs.Steps.{sharesCount}
@@ -31,31 +30,15 @@ use Rattle.shares.specs.Sharing.{CircuitRoom}
 use Rattle.compilation.specs.Compiling.{outputTrees, programCircuit}
 
 module _ (f : List ℕ) (a : Accepted f) where
-  pub outputs-count : length (bodyOf f 2) / 2 ≡ length (programOf f .outputs)
-  outputs-count = outputs-counted f (a .sized) ∙ sym (outputs-length f a)
-
-  -- every output names one of the nodes
-  pub names-node : (k : ℕ) → k < length (bodyOf f 2) / 2 → outputAt (bodyOf f 2) k < length (bodyOf f 1) / 6
-  names-node k h = omega (arith, a .outputs-fit k (omega (arith, outputs-counted f (a .sized))), nodes-counted f (a .sized))
-
-  pub nodes-ordered : TableOk (inputsOf f) (nodesIn (bodyOf f 1))
-  nodes-ordered = rw (same-nodes f a) (table-ok f a)
-
-  -- the node that an output names has the output's tree
-  pub named-tree : (k : ℕ) → k < length (bodyOf f 2) / 2 → getD (trees (nodesIn (bodyOf f 1))) (outputAt (bodyOf f 2) k) ZERO ≡ outputTree (programOf f) k
-  unfolding outputTree
-  named-tree k h =
-      ap₂ (λ (ns : List Node) (i : ℕ). getD (trees ns) i ZERO) (same-nodes f a) (sym (output-is f a k (omega (arith, outputs-counted f (a .sized)))))
-
   pub tree-same : (k : ℕ) → k < length (bodyOf f 2) / 2 → treeIn (bodyOf f 1) (outputAt (bodyOf f 2) k) ≡ outputTree (programOf f) k
   unfolding treeIn
-  tree-same k h = named-tree k h
+  tree-same k h = named-tree f a k h
 
   pub trees-same : treesIn (bodyOf f 1) (bodyOf f 2) ≡ outputTrees (programOf f)
   unfolding treesIn outputTrees
   trees-same =
       tabulate-same (λ k. treeIn (bodyOf f 1) (outputAt (bodyOf f 2) k)) (outputTree (programOf f)) (length (bodyOf f 2) / 2) tree-same
-      ∙ ap (tabulate (outputTree (programOf f))) outputs-count
+      ∙ ap (tabulate (outputTree (programOf f))) (outputs-count f a)
 
   -- where no output is too large the shares can be counted
   pub countable : ((k : ℕ) → k < length (programOf f .outputs) → size (outputTree (programOf f) k) ≤ mostSize) → AllCountable (bodyOf f 1) (bodyOf f 2)
@@ -63,8 +46,8 @@ module _ (f : List ℕ) (a : Accepted f) where
       record {
         each = λ k h.
             record {
-              valid = record { inputs = inputsOf f; ordered = nodes-ordered; inside = names-node k h };
-              small = rw (tree-same k h) (small k (omega (arith, outputs-count)));
+              valid = record { inputs = inputsOf f; ordered = nodes-ordered f a; inside = names-node f a k h };
+              small = rw (tree-same k h) (small k (omega (arith, outputs-count f a)));
             };
         outputs-most = omega (arith, outputs-counted f (a .sized), a .outputs-most);
       }
@@ -90,8 +73,8 @@ module _ (f : List ℕ) (a : Accepted f) where
       let length-is : length (circuitGates (programOf f .inputs) (outputTrees (programOf f))) ≡ sharesCount (outputTrees (programOf f)) = circuit-length (programOf f .inputs) (outputTrees (programOf f)) in (
         record { inputs-most = omega (arith, a .inputs-most); outputs-some = some; outputs-most = most; work-most = w; gates-most = g },
         record {
-          ordered = rw n nodes-ordered;
-          named = names-node;
+          ordered = rw n (nodes-ordered f a);
+          named = names-node f a;
           lines = rw n (omega (arith, a .inputs-most, a .outputs-most, outputs-counted f (a .sized), ap₂ linesNeeded (sym (inputs-is f a)) trees-same));
           few = omega (arith, ap sharesCount trees-same, length-is, few-gates);
           room = omega (arith, ap sharesCount trees-same, length-is);

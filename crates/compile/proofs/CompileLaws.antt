@@ -20,11 +20,10 @@ use Rattle.program.specs.declared.reader.Head.{Head}
 use Rattle.node.specs.Nodes.{nodesIn}
 use Rattle.program.specs.Programs.{Program}
 use Rattle.program.specs.Reading.{programOf, readProgram}
-use Rattle.program.proofs.AcceptedLaws.{Read, reader-room, nodes-length, same-nodes}
-use Rattle.program.proofs.ReadingLaws.{nodes-counted}
+use Rattle.program.proofs.AcceptedLaws.{Read, reader-room, same-nodes}
+use Rattle.program.proofs.BodyLaws.{node-count, head-nodes, fillable}
 use Rattle.sizing.specs.Sizing.{nodeSizes}
 use Rattle.node.specs.Steps.{Fillable}
-use Rattle.compile.proofs.BodyLaws.{nodes-ordered}
 use Rattle.compilation.specs.Compiling.{compileProgram, readWithSizes, compileFile, sizesAfter, compileOf}
 use Rattle.compile.specs.Steps.{Listed}
 
@@ -55,13 +54,10 @@ module _ (f : List ℕ) (grant : ℕ) (sizes area : List ℕ) where
   reader-refuses n p e = unread n p (rw e refl) (reader-room f n p e)
 
   module _ {h : Head} (r : Read f h) where
-    head-nodes : h .nodes ≡ length (programOf f .nodes)
-    head-nodes = ap (λ (t : Head). t .nodes) (r .head)
-
     pub list-short : length sizes < h .nodes → Outcome (refuse cause.ListLength) sizes area
     unfolding readWithSizes
     list-short s =
-        unread 7 0 (rw (r .accepts .is, lt-leb (length (programOf f .nodes)) (length sizes) (omega (arith, head-nodes))) refl) (omega arith)
+        unread 7 0 (rw (r .accepts .is, lt-leb (length (programOf f .nodes)) (length sizes) (omega (arith, head-nodes r))) refl) (omega arith)
 
     -- the list is long enough: it holds the nodes' sizes, and the rest is as compiling the program says
     pub sized : h .nodes ≤ length sizes
@@ -71,23 +67,17 @@ module _ (f : List ℕ) (grant : ℕ) (sizes area : List ℕ) where
         (areaAfter (mapAnswer circuitFile (compileProgram (programOf f) grant (length area))) area)
     unfolding readWithSizes
     sized s =
-        outcome (result (programOf f)) (rw (r .accepts .is, le-leb (length (programOf f .nodes)) (length sizes) (omega (arith, head-nodes))) refl)
+        outcome (result (programOf f)) (rw (r .accepts .is, le-leb (length (programOf f .nodes)) (length sizes) (omega (arith, head-nodes r))) refl)
 
     -- these sizes are those of the node body
     pub sizes-stored : nodeSizes (nodesIn (bodyOf f 1)) ++ drop (length (bodyOf f 1) / 6) sizes ≡ nodeSizes (programOf f .nodes) ++ drop (length (programOf f .nodes)) sizes
     sizes-stored =
-        ap₂ (λ (ns : List Node) (n : ℕ). nodeSizes ns ++ drop n sizes) (same-nodes f (r .accepts)) (nodes-counted f (r .accepts .sized) ∙ sym (nodes-length f (r .accepts)))
+        ap₂ (λ (ns : List Node) (n : ℕ). nodeSizes ns ++ drop n sizes) (same-nodes f (r .accepts)) (node-count f (r .accepts))
 
 -- the nodes of a program that was read have sizes, and the list then holds them
 module _ {f : List ℕ} {h : Head} (r : Read f h) where
   pub sizeable : {entries : ℕ} → h .nodes ≤ entries → (n : ℕ) × Fillable n (bodyOf f 1) entries
-  sizeable s = (
-    inputsOf f,
-    record {
-      ordered = nodes-ordered f (r .accepts);
-      fits = omega (arith, nodes-counted f (r .accepts .sized), nodes-length f (r .accepts), ap (λ (t : Head). t .nodes) (r .head));
-    },
-  )
+  sizeable s = (inputsOf f, fillable r _ s)
 
   pub listed : (old : List ℕ) {new : List ℕ} → new ≡ nodeSizes (nodesIn (bodyOf f 1)) ++ drop (length (bodyOf f 1) / 6) old → Listed f h new
   listed old e = record { reads = r .accepts .is; numbers = r .head; later = drop (length (bodyOf f 1) / 6) old; listed = e ∙ ap (λ (ns : List Node). nodeSizes ns ++ drop (length (bodyOf f 1) / 6) old) (same-nodes f (r .accepts)) }

@@ -42,7 +42,8 @@ use Rattle.compile.specs.Steps.{Listed}
 use Rattle.shares.specs.Sharing.{CircuitRoom}
 use Rattle.sizing.specs.Sizing.{nodeSizes}
 use Rattle.sizing.specs.Steps.{entryFits}
-use Rattle.compile.proofs.BodyLaws.{outputs-count, names-node, named-tree, trees-same, countable, lines-counted, gates-counted, fitting}
+use Rattle.program.proofs.BodyLaws.{outputs-count, names-node, named-tree}
+use Rattle.compile.proofs.BodyLaws.{trees-same, countable, lines-counted, gates-counted, fitting}
 use Rattle.compilation.proofs.ProgramLaws.{sizeFits, AllSmall, all-small, too-large, grant-large, lines-short, gates-many, area-short, fits}
 use Rattle.sizing.proofs.SizeLaws.{sizes-length, sizes-lowest}
 

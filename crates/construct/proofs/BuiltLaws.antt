@@ -15,7 +15,7 @@ use Rattle.node.specs.Exprs.{Expr, ZERO, ONE, INPUT, NOT, XOR, AND}
 use Rattle.program.specs.Tables.{treeIn}
 use Rattle.program.proofs.OperandLaws.{Operand, Unary, Binary}
 use Rattle.construction.specs.Pools.{allFree}
-use Rattle.construction.specs.Steps.{fresh, gateCount}
+use Rattle.construction.specs.Steps.{fresh, builtCount}
 use Rattle.construction.proofs.Numbers.{held, most, second, buildFrom}
 use Rattle.construction.proofs.PoolLaws.{tree-lines, reached-gates, reached-free, start-free}
 use Rattle.construction.proofs.CountLaws.{build-length}
@@ -121,10 +121,10 @@ built-and {a} {b} {t} {k} {f} {f′} {g′} {p} {q} {r} {l} {l₁} {l₂} {l₃}
 
 -- the room for node i is enough for a part of it that starts later and ends no later
 room-part : {nodes : List ℕ} {i t k f : ℕ} {l : List ℕ} (a t′ k′ f′ : ℕ) (l′ : List ℕ)
-    → Room nodes i t k f (gateCount (treeIn nodes i)) l → Operand nodes i a → t ≤ t′ → t′ < f′ → length l′ ≡ length l
-    → k′ + gateCount (treeIn nodes a) ≤ k + gateCount (treeIn nodes i)
+    → Room nodes i t k f (builtCount 1 (treeIn nodes i)) l → Operand nodes i a → t ≤ t′ → t′ < f′ → length l′ ≡ length l
+    → k′ + builtCount 1 (treeIn nodes a) ≤ k + builtCount 1 (treeIn nodes i)
     → f′ + most (treeIn nodes a) ≤ f + most (treeIn nodes i)
-    → Room nodes a t′ k′ f′ (gateCount (treeIn nodes a)) l′
+    → Room nodes a t′ k′ f′ (builtCount 1 (treeIn nodes a)) l′
 room-part {nodes} {i} {t} {k} {f} a t′ k′ f′ l′ m o up h same g lines =
     record {
       valid = record { inputs = m .valid .inputs; ordered = m .valid .ordered; inside = o .valid .inside };
@@ -136,12 +136,12 @@ room-part {nodes} {i} {t} {k} {f} a t′ k′ f′ l′ m o up h same g lines =
     }
 
 -- there is room for one gate more of node i
-room-gate : {nodes : List ℕ} {i t k f : ℕ} {l : List ℕ} (j g : ℕ) (l′ : List ℕ) → Room nodes i t k f (gateCount (treeIn nodes i)) l → length l′ ≡ length l
-    → j + 1 ≤ k + gateCount (treeIn nodes i) → g < lineNumbers → (j + 1 ≤ mostGates) × (fileLength (j + 1) ≤ length l′) × (g < lineNumbers)
+room-gate : {nodes : List ℕ} {i t k f : ℕ} {l : List ℕ} (j g : ℕ) (l′ : List ℕ) → Room nodes i t k f (builtCount 1 (treeIn nodes i)) l → length l′ ≡ length l
+    → j + 1 ≤ k + builtCount 1 (treeIn nodes i) → g < lineNumbers → (j + 1 ≤ mostGates) × (fileLength (j + 1) ≤ length l′) × (g < lineNumbers)
 room-gate j g l′ m same h low = (omega (arith, m .few), omega (arith, m .room), low)
 
 -- there is room for each gate and each operand of node i, by its kind
-module _ {nodes : List ℕ} {i t k f : ℕ} {l : List ℕ} (m : Room nodes i t k f (gateCount (treeIn nodes i)) l) where
+module _ {nodes : List ℕ} {i t k f : ℕ} {l : List ℕ} (m : Room nodes i t k f (builtCount 1 (treeIn nodes i)) l) where
   -- its lowest free line has a number
   pub free-low : f < lineNumbers
   free-low = omega (arith, m .lines)
@@ -154,41 +154,41 @@ module _ {nodes : List ℕ} {i t k f : ℕ} {l : List ℕ} (m : Room nodes i t k
   OneMore = (k + 1 ≤ mostGates) × (fileLength (k + 1) ≤ length l) × (f < lineNumbers)
 
   pub room-one : treeIn nodes i ≡ ONE → OneMore
-  unfolding gateCount
-  room-one e = room-gate k f l m refl (omega (arith, ap gateCount e)) free-low
+  unfolding builtCount
+  room-one e = room-gate k f l m refl (omega (arith, ap (builtCount 1) e)) free-low
 
   pub room-input : {j : ℕ} → treeIn nodes i ≡ INPUT j → OneMore
-  unfolding gateCount
-  room-input e = room-gate k f l m refl (omega (arith, ap gateCount e)) free-low
+  unfolding builtCount
+  room-input e = room-gate k f l m refl (omega (arith, ap (builtCount 1) e)) free-low
 
   module _ {a : ℕ} (u : Unary NOT nodes i a) where
     pub room-not : OneMore
-    unfolding gateCount
-    room-not = room-gate k f l m refl (omega (arith, ap gateCount (u .is))) free-low
+    unfolding builtCount
+    room-not = room-gate k f l m refl (omega (arith, ap (builtCount 1) (u .is))) free-low
 
-    pub room-under : {l₁ : List ℕ} → length l₁ ≡ length l → Room nodes a t (k + 1) f (gateCount (treeIn nodes a)) l₁
-    unfolding gateCount
+    pub room-under : {l₁ : List ℕ} → length l₁ ≡ length l → Room nodes a t (k + 1) f (builtCount 1 (treeIn nodes a)) l₁
+    unfolding builtCount
     room-under {l₁} same =
         room-part a t (k + 1) f l₁ m (u .only) (omega arith) (m .taken) same
-        (omega (arith, ap gateCount (u .is)))
+        (omega (arith, ap (builtCount 1) (u .is)))
         (omega (arith, ap most (u .is), most-not (treeIn nodes a)))
 
   module _ {a b : ℕ} (u : Binary XOR nodes i a b) where
-    pub room-xor-first : Room nodes a t k f (gateCount (treeIn nodes a)) l
-    unfolding gateCount
+    pub room-xor-first : Room nodes a t k f (builtCount 1 (treeIn nodes a)) l
+    unfolding builtCount
     room-xor-first =
         room-part a t k f l m (u .first) (omega arith) (m .taken) refl
-        (omega (arith, ap gateCount (u .is)))
+        (omega (arith, ap (builtCount 1) (u .is)))
         (omega (arith, ap most (u .is), most-xor-first (treeIn nodes a) (treeIn nodes b)))
 
     -- there is room for the second wherever it starts, up to where the first ended
     pub room-xor-second : {p j g : ℕ} {l₁ : List ℕ} → Wrote (tree (treeIn nodes a) t) k f p l l₁ → length l₁ ≡ length l
-        → t < g → j ≤ p / lineNumbers → g ≤ p % lineNumbers → Room nodes b t j g (gateCount (treeIn nodes b)) l₁
-    unfolding gateCount
+        → t < g → j ≤ p / lineNumbers → g ≤ p % lineNumbers → Room nodes b t j g (builtCount 1 (treeIn nodes b)) l₁
+    unfolding builtCount
     room-xor-second {p} {j} {g} {l₁} v same h few low =
         let w = by-numbers v in
         room-part b t j g l₁ m (u .second) (omega arith) h same
-        (omega (arith, ap gateCount (u .is), w .stored .count-to, build-length (treeIn nodes a) t f))
+        (omega (arith, ap (builtCount 1) (u .is), w .stored .count-to, build-length (treeIn nodes a) t f))
         (omega (arith, ap most (u .is), most-xor-second (treeIn nodes a) (treeIn nodes b), w .free-to))
 
   module _ {a b : ℕ} (u : Binary AND nodes i a b) where
@@ -205,11 +205,11 @@ module _ {nodes : List ℕ} {i t k f : ℕ} {l : List ℕ} (m : Room nodes i t k
     -- once it is taken
     module _ {f′ : ℕ} (e : f′ ≡ f + 1) where
       -- there is room for the first on any line that is taken
-      pub room-and-first : {t′ : ℕ} → t ≤ t′ → t′ < f′ → Room nodes a t′ k f′ (gateCount (treeIn nodes a)) l
-      unfolding gateCount
+      pub room-and-first : {t′ : ℕ} → t ≤ t′ → t′ < f′ → Room nodes a t′ k f′ (builtCount 1 (treeIn nodes a)) l
+      unfolding builtCount
       room-and-first {t′} up h =
           room-part a t′ k f′ l m (u .first) up h refl
-          (omega (arith, ap gateCount (u .is)))
+          (omega (arith, ap (builtCount 1) (u .is)))
           (omega (arith, ap most (u .is), most-and-first (treeIn nodes a) (treeIn nodes b)))
 
       module _ {t₁ p : ℕ} {l₁ : List ℕ} (v : Wrote (tree (treeIn nodes a) t₁) k f′ p l l₁) where
@@ -220,19 +220,19 @@ module _ {nodes : List ℕ} {i t k f : ℕ} {l : List ℕ} (m : Room nodes i t k
         -- once it is taken too
         module _ {g′ : ℕ} (e′ : g′ ≡ p % lineNumbers + 1) where
           -- there is room for the second on any line that is taken
-          pub room-and-second : {t′ : ℕ} → t ≤ t′ → t′ < g′ → length l₁ ≡ length l → Room nodes b t′ (p / lineNumbers) g′ (gateCount (treeIn nodes b)) l₁
-          unfolding gateCount
+          pub room-and-second : {t′ : ℕ} → t ≤ t′ → t′ < g′ → length l₁ ≡ length l → Room nodes b t′ (p / lineNumbers) g′ (builtCount 1 (treeIn nodes b)) l₁
+          unfolding builtCount
           room-and-second {t′} up h same =
               let w = by-numbers v in
               room-part b t′ (p / lineNumbers) g′ l₁ m (u .second) up h same
-              (omega (arith, ap gateCount (u .is), w .stored .count-to, build-length (treeIn nodes a) t₁ f′))
+              (omega (arith, ap (builtCount 1) (u .is), w .stored .count-to, build-length (treeIn nodes a) t₁ f′))
               (omega (arith, ap most (u .is), most-and-second (treeIn nodes a) (treeIn nodes b), w .free-to))
 
           -- there is room for the gate that joins them
           pub room-toffoli : {t₂ q : ℕ} {l₂ : List ℕ} → Wrote (tree (treeIn nodes b) t₂) (p / lineNumbers) g′ q l₁ l₂ → length l₂ ≡ length l
               → (q / lineNumbers + 1 ≤ mostGates) × (fileLength (q / lineNumbers + 1) ≤ length l₂) × (q % lineNumbers < lineNumbers)
-          unfolding gateCount
+          unfolding builtCount
           room-toffoli {t₂} {q} {l₂} x same =
               room-gate (q / lineNumbers) (q % lineNumbers) l₂ m same
-              (omega (arith, ap gateCount (u .is), by-numbers v .stored .count-to, build-length (treeIn nodes a) t₁ f′, by-numbers x .stored .count-to, build-length (treeIn nodes b) t₂ g′))
+              (omega (arith, ap (builtCount 1) (u .is), by-numbers v .stored .count-to, build-length (treeIn nodes a) t₁ f′, by-numbers x .stored .count-to, build-length (treeIn nodes b) t₂ g′))
               (omega arith)

@@ -9,7 +9,7 @@ ghost use lib.ListN.{length};
 ghost use Rattle.wire.specs.Limits.{mostGates};
 ghost use Rattle.circuit.specs.Format.{fileLength};
 ghost use Rattle.program.specs.Tables.{treeIn};
-ghost use Rattle.construction.specs.Steps.{gateCount};
+ghost use Rattle.construction.specs.Steps.{builtCount};
 ghost use Rattle.construct.specs.Writing.{lineNumbers, packed, single, tree, Wrote, Room};
 
 // How many numbers a line can have: it is written in 16 bits.
@@ -51,7 +51,7 @@ pub fn build(
     free: usize,
     area: &mut [u8],
 ) -> usize
-    requires { ⌜ Room (now nodes) i target gates free (gateCount (treeIn (now nodes) i)) (now area) ⌝ }
+    requires { ⌜ Room (now nodes) i target gates free (builtCount 1 (treeIn (now nodes) i)) (now area) ⌝ }
     ensures { λ r. ⌜ Wrote (tree (treeIn (now (nodes .entry)) i) target) gates free r (now (area .entry)) (now (area .exit)) ⌝ }
 {
     let node = node_at(nodes, i);

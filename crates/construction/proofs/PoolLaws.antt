@@ -142,6 +142,10 @@ module _ (e : Expr) (t f : ℕ) where
   unfolding inUse
   tree-lines = ap (λ (b : Built). b .pool .most) (tree-is e t f)
 
+  pub share-lines : share e t (allFree f) .pool .most ≡ most e
+  unfolding inUse
+  share-lines = ap (λ (p : Pool). share e t p .pool .most) (all-free f) ∙ ap (λ (b : Built). b .pool .most) (share-is e t f 0) ∙ omega arith
+
   pub share-gates : share e t (allFree f) .gates ≡ shareFrom e t f
   share-gates = ap (λ (p : Pool). share e t p .gates) (all-free f) ∙ ap (λ (b : Built). b .gates) (share-is e t f 0)
 

@@ -1,5 +1,5 @@
 -- What the code that counts and builds is held to: no service's definition is here.
-use Prim.Native.Nat.{ℕ, _+_, _*_, _-_}
+use Prim.Native.Nat.{ℕ, _+_}
 use mathlib.Core.List.{List, [], _∷_}
 use Rattle.node.specs.Exprs.{Expr, ZERO, ONE, INPUT, NOT, XOR, AND}
 use Rattle.construction.specs.Pools.{Pool, allFree, takeLine, freeAll}
@@ -12,29 +12,29 @@ pub data Reached : Pool → Type 0 where
   built : (e : Expr) (t : ℕ) (p : Pool) → Reached p → Reached (build e t p .pool)
   released : (p : Pool) → Reached p → Reached (freeAll p)
 
--- how many gates build a tree
-unfoldable pub gateCount : Expr → ℕ
-gateCount ZERO = 0
-gateCount ONE = 1
-gateCount (INPUT j) = 1
-gateCount (NOT a) = 1 + gateCount a
-gateCount (XOR a b) = gateCount a + gateCount b
-gateCount (AND a b) = gateCount a + gateCount b + 1
+-- how many gates build a tree, where a NOT or CNOT counts c and a Toffoli 1: with c 1 all of them, with c 0 the Toffolis
+unfoldable pub builtCount : ℕ → Expr → ℕ
+builtCount c ZERO = 0
+builtCount c ONE = c
+builtCount c (INPUT j) = c
+builtCount c (NOT a) = c + builtCount c a
+builtCount c (XOR a b) = builtCount c a + builtCount c b
+builtCount c (AND a b) = builtCount c a + builtCount c b + 1
 
--- how many of them have the tree's own line as their target
-unfoldable pub ownCount : Expr → ℕ
-ownCount ZERO = 0
-ownCount ONE = 1
-ownCount (INPUT j) = 1
-ownCount (NOT a) = 1 + ownCount a
-ownCount (XOR a b) = ownCount a + ownCount b
-ownCount (AND a b) = 1
+-- how many of them a share undoes, counted so: all but those on the tree's own line; of an AND only the last gate, its Toffoli, is on it
+unfoldable pub undoneCount : ℕ → Expr → ℕ
+undoneCount c ZERO = 0
+undoneCount c ONE = 0
+undoneCount c (INPUT j) = 0
+undoneCount c (NOT a) = undoneCount c a
+undoneCount c (XOR a b) = undoneCount c a + undoneCount c b
+undoneCount c (AND a b) = builtCount c a + builtCount c b
 
--- how many gates a share has: those with the output's target are not undone
-unfoldable pub shareCount : Expr → ℕ
-shareCount e = 2 * gateCount e - ownCount e
+-- how many gates or Toffolis a share has: those that build its tree, and those undone
+unfoldable pub shareCount : ℕ → Expr → ℕ
+shareCount c e = builtCount c e + undoneCount c e
 
 -- how many gates the shares of several outputs have together
 unfoldable pub sharesCount : List Expr → ℕ
 sharesCount [] = 0
-sharesCount (e ∷ es) = shareCount e + sharesCount es
+sharesCount (e ∷ es) = shareCount 1 e + sharesCount es

@@ -8,7 +8,7 @@ use Rattle.node.specs.Exprs.{Expr, size}
 use Rattle.program.specs.Reading.{outputAt}
 use Rattle.construction.specs.Construction.{linesNeeded}
 use Rattle.construction.specs.Counting.{gatesShown}
-use Rattle.construction.specs.Steps.{gateCount, ownCount, sharesCount}
+use Rattle.construction.specs.Steps.{builtCount, undoneCount, sharesCount}
 use Rattle.construction.specs.Theorems.{treeLines}
 use Rattle.counting.specs.declared.TreeCounts.{TreeCounts}
 use Rattle.counting.specs.declared.Needs.{Needs}
@@ -17,7 +17,7 @@ use Rattle.program.specs.Tables.{treeIn, Valid}
 -- numbers that are small enough to be added
 pub record Few (x : TreeCounts) : Type 0 where
   pub gates-few : x .gates ≤ mostSize
-  pub own-few : x .own ≤ mostSize
+  pub undone-few : x .undone ≤ mostSize
   pub lines-few : x .lines ≤ mostSize
 
 -- more gates than all outputs together can take: a share has fewer than twice the gates of its tree
@@ -36,8 +36,8 @@ pub record AllCountable (nodes outputs : List ℕ) : Type 0 where
 
 -- a tree's gates and lines, as they are counted, whatever its target and the first work line are
 pub record Counted (e : Expr) (r : TreeCounts) : Type 0 where
-  pub gates-are : r .gates ≡ gatesShown (gateCount e)
-  pub own-are : r .own ≡ ownCount e
+  pub gates-are : r .gates ≡ gatesShown (builtCount 1 e)
+  pub undone-are : r .undone ≡ gatesShown (undoneCount 1 e)
   pub lines-are : (t f : ℕ) → r .lines ≡ treeLines e t f
 
 -- the gates and work lines of a circuit over any number of inputs, as they are counted

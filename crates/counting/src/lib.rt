@@ -3,15 +3,15 @@ use node::nodes::Node;
 use node::nodes::node_at;
 use program::reader::output_at;
 ghost use mathlib.Core.Path.{_≡_};
-ghost use Prim.Native.Nat.{_+_, _*_, _-_, _≤_, max};
+ghost use Prim.Native.Nat.{_+_, _≤_, max};
 ghost use Rattle.counting.specs.Counters.{Few, mostCounted, Countable, Counted, AllCountable, Needed};
 ghost use Rattle.program.specs.Tables.{treeIn, treesIn};
 
-// A tree's numbers: its gates, those of them that change its own line, and the most work lines
-// that it holds together.
+// A tree's numbers: its gates, those of them that a share undoes, and the most work lines that it
+// holds together.
 pub struct TreeCounts {
     pub gates: usize,
-    pub own: usize,
+    pub undone: usize,
     pub lines: usize,
 }
 
@@ -21,13 +21,13 @@ pub struct Needs {
     pub lines: usize,
 }
 
-// A leaf's numbers: it has one gate or none, and takes no line.
+// A leaf's numbers: it has one gate or none, which is not undone, and takes no line.
 fn count_leaf(gates: usize) -> TreeCounts
-    ensures { λ r. ⌜ r ≡ record { gates = gates; own = gates; lines = 0 } ⌝ }
+    ensures { λ r. ⌜ r ≡ record { gates = gates; undone = 0; lines = 0 } ⌝ }
 {
     TreeCounts {
         gates,
-        own: gates,
+        undone: 0,
         lines: 0,
     }
 }
@@ -35,11 +35,11 @@ fn count_leaf(gates: usize) -> TreeCounts
 // The numbers of NOT: a gate on the same line comes first.
 fn count_not(x: TreeCounts) -> TreeCounts
     requires { ⌜ Few x ⌝ }
-    ensures { λ r. ⌜ r ≡ record { gates = 1 + x .gates; own = 1 + x .own; lines = x .lines } ⌝ }
+    ensures { λ r. ⌜ r ≡ record { gates = 1 + x .gates; undone = x .undone; lines = x .lines } ⌝ }
 {
     TreeCounts {
         gates: 1 + x.gates,
-        own: 1 + x.own,
+        undone: x.undone,
         lines: x.lines,
     }
 }
@@ -47,23 +47,23 @@ fn count_not(x: TreeCounts) -> TreeCounts
 // The numbers of XOR: both operands go to the same line.
 fn count_xor(x: TreeCounts, y: TreeCounts) -> TreeCounts
     requires { ⌜ Few x × Few y ⌝ }
-    ensures { λ r. ⌜ r ≡ record { gates = x .gates + y .gates; own = x .own + y .own; lines = x .lines + y .lines } ⌝ }
+    ensures { λ r. ⌜ r ≡ record { gates = x .gates + y .gates; undone = x .undone + y .undone; lines = x .lines + y .lines } ⌝ }
 {
     TreeCounts {
         gates: x.gates + y.gates,
-        own: x.own + y.own,
+        undone: x.undone + y.undone,
         lines: x.lines + y.lines,
     }
 }
 
-// The numbers of AND: each operand has a line of its own, and one gate goes to the target.
+// The numbers of AND: each operand has a line of its own, and is undone; one gate goes to the target.
 fn count_and(x: TreeCounts, y: TreeCounts) -> TreeCounts
     requires { ⌜ Few x × Few y ⌝ }
-    ensures { λ r. ⌜ r ≡ record { gates = x .gates + y .gates + 1; own = 1; lines = 1 + x .lines + (1 + y .lines) } ⌝ }
+    ensures { λ r. ⌜ r ≡ record { gates = x .gates + y .gates + 1; undone = x .gates + y .gates; lines = 1 + x .lines + (1 + y .lines) } ⌝ }
 {
     TreeCounts {
         gates: x.gates + y.gates + 1,
-        own: 1,
+        undone: x.gates + y.gates,
         lines: 1 + x.lines + (1 + y.lines),
     }
 }
@@ -100,13 +100,13 @@ fn larger(a: usize, b: usize) -> usize
     a
 }
 
-// The needs with one output's share more: its gates on that target are not undone.
+// The needs with one output's share more: the gates that build it, and those undone.
 fn add_share(needs: Needs, x: TreeCounts) -> Needs
-    requires { ⌜ Few x × (x .own ≤ x .gates) × (needs .gates ≤ mostCounted) ⌝ }
-    ensures { λ r. ⌜ r ≡ record { gates = needs .gates + (2 * x .gates - x .own); lines = max (needs .lines) (x .lines) } ⌝ }
+    requires { ⌜ Few x × (needs .gates ≤ mostCounted) ⌝ }
+    ensures { λ r. ⌜ r ≡ record { gates = needs .gates + (x .gates + x .undone); lines = max (needs .lines) (x .lines) } ⌝ }
 {
     Needs {
-        gates: needs.gates + (2 * x.gates - x.own),
+        gates: needs.gates + (x.gates + x.undone),
         lines: larger(needs.lines, x.lines),
     }
 }

@@ -21,7 +21,8 @@ use Rattle.program.specs.Programs.{Program, outputTree, outputValue}
 use Rattle.node.specs.Trees.{nodeValues, trees}
 use Rattle.program.specs.Reading.{nodesOf, outputAt, programOf, readProgram}
 use Rattle.node.specs.Steps.{Fillable}
-use Rattle.program.proofs.AcceptedLaws.{Read, nodes-length, same-nodes, outputs-length, output-is, inputs-is, table-ok}
+use Rattle.program.proofs.AcceptedLaws.{Read, nodes-length, same-nodes, outputs-length, output-is, inputs-is}
+use Rattle.program.proofs.BodyLaws.{node-count, nodes-ordered, head-inputs, head-outputs, head-nodes}
 use Rattle.program.proofs.ReadingLaws.{nodes-counted, outputs-long}
 use Rattle.node.proofs.ValueLaws.{values-length, values-at}
 use Rattle.evaluate.specs.Evaluating.{evaluateFile, evaluateOf}
@@ -48,18 +49,9 @@ module _ (f list x : List ℕ) (k : ℕ) where
   reader-refuses n p e = refuses n p (rw e refl)
 
   module _ {h : Head} (r : Read f h) where
-    head-nodes : h .nodes ≡ length (programOf f .nodes)
-    head-nodes = ap (λ (t : Head). t .nodes) (r .head)
-
-    head-inputs : h .inputs ≡ programOf f .inputs
-    head-inputs = ap (λ (t : Head). t .inputs) (r .head)
-
-    head-outputs : h .outputs ≡ length (programOf f .outputs)
-    head-outputs = ap (λ (t : Head). t .outputs) (r .head)
-
     pub list-short : length list < h .nodes → Outcome (refuse cause.ListLength) list
     unfolding evaluateFile
-    list-short s = refuses 7 0 (simp (r .accepts .is, lt-leb (length (programOf f .nodes)) (length list) (omega (arith, head-nodes))))
+    list-short s = refuses 7 0 (simp (r .accepts .is, lt-leb (length (programOf f .nodes)) (length list) (omega (arith, head-nodes r))))
 
     -- every check has passed
     pub record Ready : Type 0 where
@@ -68,10 +60,10 @@ module _ (f list x : List ℕ) (k : ℕ) where
       pub output : k < h .outputs
 
     fits : h .nodes ≤ length list → leb (length (programOf f .nodes)) (length list) ≡ true
-    fits room = le-leb (length (programOf f .nodes)) (length list) (omega (arith, head-nodes))
+    fits room = le-leb (length (programOf f .nodes)) (length list) (omega (arith, head-nodes r))
 
     same-test : bitsFit (programOf f .inputs) x ≡ bitsFit (h .inputs) x
-    same-test = ap (λ (n : ℕ). bitsFit n x) (sym head-inputs)
+    same-test = ap (λ (n : ℕ). bitsFit n x) (sym (head-inputs r))
 
     pub inputs-bad : h .nodes ≤ length list → bitsFit (h .inputs) x ≡ false → Outcome (refuse cause.InputBytes) list
     unfolding evaluateFile
@@ -79,30 +71,30 @@ module _ (f list x : List ℕ) (k : ℕ) where
 
     pub output-bad : h .nodes ≤ length list → bitsFit (h .inputs) x ≡ true → h .outputs ≤ k → Outcome (refuse cause.OutputNumber) list
     unfolding evaluateFile
-    output-bad room e s = refuses 15 0 (simp (r .accepts .is, fits room, same-test ∙ e, le-ltb k (length (programOf f .outputs)) (omega (arith, head-outputs))))
+    output-bad room e s = refuses 15 0 (simp (r .accepts .is, fits room, same-test ∙ e, le-ltb k (length (programOf f .outputs)) (omega (arith, head-outputs r))))
 
     module _ (q : Ready) where
       -- the nodes can be evaluated
       pub fillable : Fillable (length x) (bodyOf f 1) (length list)
       fillable =
-          let n : length x ≡ inputsOf f = bits-count (h .inputs) x (q .bits) ∙ head-inputs ∙ inputs-is f (r .accepts) in
+          let n : length x ≡ inputsOf f = bits-count (h .inputs) x (q .bits) ∙ head-inputs r ∙ inputs-is f (r .accepts) in
           record {
-            ordered = rw (n, same-nodes f (r .accepts)) (table-ok f (r .accepts));
-            fits = omega (arith, nodes-counted f (r .accepts .sized), head-nodes, nodes-length f (r .accepts), q .room);
+            ordered = rw n (nodes-ordered f (r .accepts));
+            fits = omega (arith, node-count f (r .accepts), head-nodes r, q .room);
           }
 
       pub input-bits : Bits x
       input-bits = bits-are (h .inputs) x (q .bits)
 
       within : k < outputsOf f
-      within = omega (arith, head-outputs, outputs-length f (r .accepts), q .output)
+      within = omega (arith, head-outputs r, outputs-length f (r .accepts), q .output)
 
       -- the output's entry is there, and the node that it names has a value
       pub output-there : 2 * (k + 1) ≤ length (bodyOf f 2)
       output-there = omega (arith, within, outputs-long f (r .accepts .sized .laid), r .accepts .sized .twos)
 
       pub node-there : outputAt (bodyOf f 2) k < length list
-      node-there = omega (arith, r .accepts .outputs-fit k within, head-nodes, nodes-length f (r .accepts), q .room)
+      node-there = omega (arith, r .accepts .outputs-fit k within, head-nodes r, nodes-length f (r .accepts), q .room)
 
       all-counted : length (nodeValues (programOf f .nodes) x) ≡ nodesOf f
       all-counted = values-length (programOf f .nodes) x ∙ nodes-length f (r .accepts)
@@ -116,7 +108,7 @@ module _ (f list x : List ℕ) (k : ℕ) where
 
       found : evaluateFile f (length list) x k ≡ result (programOf f)
       unfolding evaluateFile
-      found = simp (r .accepts .is, fits (q .room), same-test ∙ q .bits, lt-ltb k (length (programOf f .outputs)) (omega (arith, head-outputs, q .output)))
+      found = simp (r .accepts .is, fits (q .room), same-test ∙ q .bits, lt-ltb k (length (programOf f .outputs)) (omega (arith, head-outputs r, q .output)))
 
       -- the answer is the output's value
       pub output-answered : evaluateOf f list x k .answer ≡ result (outputValue (programOf f) x k)

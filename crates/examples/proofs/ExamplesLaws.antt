@@ -27,7 +27,8 @@ use Rattle.construction.specs.Pools.{isAmong, allFree, lowestFree, takeLine, fr
 use Rattle.construction.specs.Construction.{build, share, shares, allShares, linesNeeded}
 use Rattle.construction.specs.Construction as construction
 use Rattle.construction.specs.Counting.{gatesShown}
-use Rattle.sizing.specs.Sizing.{shown, nodeSizes}
+use Rattle.sizing.specs.Sizing.{nodeSizes}
+use Rattle.wire.specs.Shown.{shown}
 use Rattle.compilation.specs.Compiling.{outputTrees, programCircuit}
 use Rattle.line.specs.Lines.{digitCount, decimal, field, line, refusedLine}
 use Rattle.text.specs.Listings.{gateLine, firstLine, listing}

@@ -5,7 +5,7 @@ use mathlib.Core.Path.{_≡_, refl, sym, ap, _∙_}
 use mathlib.Core.Logic.{_≢_}
 use mathlib.Core.Bool.{Bool, true, false, false≢true}
 use mathlib.Core.List.{List, [], _∷_, _++_, reverse, reverse-append}
-use lib.ListN.{length, length-append, length-reverse}
+use lib.ListN.{length, length-reverse}
 use lib.Dec.{eqb}
 use borrow.Author.Tests.{eqb-true}
 use Rattle.gate.specs.declared.gates.Gate.{Gate}
@@ -42,10 +42,6 @@ without-append out (g ∷ gs) hs =
     by-test (out (target g))
     (λ e. rw e (without-append out gs hs))
     (λ e. rw e (ap (λ (l : List Gate). g ∷ l) (without-append out gs hs)))
-
--- of two lists together as many gates remain as of each
-pub without-both : (out : ℕ → Bool) (gs hs : List Gate) → length (without out (gs ++ hs)) ≡ length (without out gs) + length (without out hs)
-without-both out gs hs = ap length (without-append out gs hs) ∙ length-append (without out gs) (without out hs)
 
 -- where line t is no gate's target, leaving it out leaves every gate
 pub without-none : (t : ℕ) (gs : List Gate) → All (λ g. t ≢ target g) gs → without (eqb t) gs ≡ gs

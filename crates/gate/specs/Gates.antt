@@ -1,5 +1,5 @@
 -- Gates and their lines.
-use Prim.Native.Nat.{ℕ}
+use Prim.Native.Nat.{ℕ, _+_}
 use mathlib.Core.Path.{_≡_}
 use mathlib.Core.Bool.{Bool, true, not, _&&_}
 use mathlib.Core.List.{List, [], _∷_}
@@ -19,6 +19,13 @@ abbrev pub Controls : (ℕ → Type 0) → Gate → Type 0
 Controls P (Not t) = Unit {0}
 Controls P (Cnot a t) = P a
 Controls P (Toffoli a b t) = P a × P b
+
+-- how many Toffolis there are among gates
+unfoldable pub toffoliCount : List Gate → ℕ
+toffoliCount [] = 0
+toffoliCount (Not t ∷ gs) = toffoliCount gs
+toffoliCount (Cnot a t ∷ gs) = toffoliCount gs
+toffoliCount (Toffoli a b t ∷ gs) = 1 + toffoliCount gs
 
 -- the gate's lines are below L and all different
 unfoldable pub wellFormed : ℕ → Gate → Bool

@@ -1,13 +1,13 @@
 -- Laws of a lent list that is filled with an entry for each node of a body, front to back: what f says of the node's tree. Assumes nothing.
 use Prim.Native.Nat.{ℕ, _+_, _*_, _/_, _<_, _≤_}
 use native.Mathlib.Omega.{arith}
-use native.Mathlib.Nat.{one-mul, mul-le-mul-left, mul-one, mul-add}
+use native.Mathlib.Nat.{one-mul, mul-le-mul-left}
 use mathlib.Core.Path.{_≡_, refl, sym, ap, _∙_}
 use mathlib.Core.List.{List, [], _∷_, _++_, map, flatMap}
 use lib.ListN.{length, getD, take, drop, set, length-map}
 use lib.Seq.{sets, getD-take}
-use Rattle.wire.proofs.FillLaws.{Filled, filled-front, filled-run, filled-all}
-use Rattle.wire.proofs.ListLaws.{map-at, flat-length, flat-take, flat-at, flat-single}
+use Rattle.wire.proofs.FillLaws.{Filled, filled-front, filled-all, filled-entry, filled-entries}
+use Rattle.wire.proofs.ListLaws.{map-at, flat-take, flat-single}
 use Rattle.node.specs.declared.nodes.Node.{Node}
 use Rattle.node.specs.declared.nodes.Node.the-variants.{Zero}
 use Rattle.node.specs.Exprs.{Expr, ZERO}
@@ -31,28 +31,20 @@ module _ (w : ℕ) (f : Expr → List ℕ) (wide : (e : Expr) → length (f e) �
     abbrev every : List ℕ
     every = flatMap f (trees (nodesIn body))
 
-    pub every-count : length every ≡ w * (length body / 6)
-    every-count = flat-length w f wide (trees (nodesIn body)) ∙ ap (λ (k : ℕ). w * k) (length-trees (nodesIn body) ∙ nodes-count body)
+    count : length (trees (nodesIn body)) ≡ length body / 6
+    count = length-trees (nodesIn body) ∙ nodes-count body
 
     -- a loop has stored the entries of the first i nodes: the next one is stored
     pub run-stored : {n i entries : ℕ} (entry : List ℕ) {list₀ list : List ℕ} → Filled every list₀ list (w * i) → Fillable n body entries → w * entries ≤ length list₀ → i < length body / 6
         → NextOf f (nodeAt body i) (take (w * i) list) entry → Filled every list₀ (sets list (w * i) entry) (w * (i + 1))
     run-stored {n} {i} {entries} entry {list₀} {list} p s room h next =
         let known : entry ≡ f (getD (trees (nodesIn body)) i ZERO) = entry-next (nodesIn body) n i (s .ordered) (node-inside body i h) (rw (node-in body i h, ← filled-front p) next) in
-        let long : length entry ≡ w = ap length known ∙ wide (getD (trees (nodesIn body)) i ZERO) in
-        let at : take w (drop (w * i) every) ≡ f (getD (trees (nodesIn body)) i ZERO) = flat-at w f wide (trees (nodesIn body)) i ZERO (omega (arith, length-trees (nodesIn body), nodes-count body)) in
-        let next-is : w * (i + 1) ≡ w * i + length entry = mul-add w i 1 ∙ ap (λ (k : ℕ). w * i + k) (mul-one w ∙ sym long) in
-        let inside : w * (i + 1) ≤ w * (length body / 6) = mul-le-mul-left w (omega arith) in
-        let fits : w * (length body / 6) ≤ w * entries = mul-le-mul-left w (s .fits) in
-        let stored : Filled every list₀ (sets list (w * i) entry) (w * i + length entry) =
-        filled-run entry p (known ∙ sym at ∙ ap (λ (k : ℕ). take k (drop (w * i) every)) (sym long)) (omega (arith, every-count)) (omega (arith, every-count)) in
-        rw next-is stored
+        let fits : w * length (trees (nodesIn body)) ≤ w * entries = mul-le-mul-left w (omega (arith, count, s .fits)) in
+        filled-entry w f wide (trees (nodesIn body)) ZERO i entry p (omega (arith, count)) (omega arith) known
 
     -- every entry is stored
     pub runs-stored : {list₀ list : List ℕ} {i : ℕ} → Filled every list₀ list (w * i) → length body / 6 ≤ i → list ≡ every ++ drop (w * (length body / 6)) list₀
-    runs-stored {list₀} {list} {i} p h =
-        let all : w * (length body / 6) ≤ w * i = mul-le-mul-left w h in
-        filled-all p (omega (arith, every-count)) ∙ ap (λ (n : ℕ). every ++ drop n list₀) every-count
+    runs-stored {list₀} p h = filled-entries w f wide (trees (nodesIn body)) p (omega (arith, count)) ∙ ap (λ (n : ℕ). every ++ drop (w * n) list₀) count
 
 -- entries of one number each: the number of every node of a table
 module _ (f : Expr → ℕ) (ns : List Node) where

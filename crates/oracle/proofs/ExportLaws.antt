@@ -14,6 +14,7 @@ use Rattle.undo.specs.UndoCircuit.{undoFile}
 use Rattle.undo.proofs.UndoneLaws.{undid}
 use Rattle.undo.proofs.UndoneLaws as undo
 use Rattle.compilation.specs.Compiling.{compileOf}
+use Rattle.quotation.specs.Quoting.{quoteOf}
 use Rattle.compilation.specs.Demand.{Demand3}
 use Rattle.compilation.proofs.AcceptedLaws.{accepted}
 use Rattle.compile.specs.declared.Compiled.{Compiled}
@@ -33,6 +34,10 @@ answer-shown show g number x e = ap (λ y. show (mapAnswer number y)) e ∙ ap s
 pub bytes-written : (x : Answer Circuit) → exported (mapAnswer (λ c. fileBytes (headOf c)) x) ≡ exported (mapAnswer (λ c. length (circuitFile c)) x)
 bytes-written (result c) = ap (λ (n : ℕ). exported (result n)) (sym (file-length c))
 bytes-written (refused n p) = refl
+
+-- what is shown of a quote's answer is what is shown of quoting
+pub quoted-shown : (f counts answers : List ℕ) {a : Answer ℕ} → a ≡ quoteOf f counts answers .answer → {r : OracleAnswer} → r ≡ exported a → r ≡ exported (quoteOf f counts answers .answer)
+quoted-shown f counts answers e q = q ∙ ap exported e
 
 -- a circuit that undoing writes has few gates
 pub undone-few : (f choices : List ℕ) (room : ℕ) {a : Answer CircuitHead} → a ≡ mapAnswer headOf (undoFile f choices room) → FewGates a

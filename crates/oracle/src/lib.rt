@@ -6,12 +6,14 @@ use abi::circuit_answer;
 use abi::compile_answer;
 use abi::evaluate_answer;
 use abi::program_answer;
+use abi::quote_answer;
 use abi::run_answer;
 use abi::undo_answer;
 use circuit::reader::read_circuit;
 use compile::compile;
 use evaluate::evaluate;
 use program::reader::read_program;
+use quote::quote;
 use run::run_backwards;
 use run::run_forwards;
 use undo::undo;
@@ -26,6 +28,7 @@ ghost use Rattle.undo.specs.UndoCircuit.{undoFile};
 ghost use Rattle.program.specs.Reading.{readProgram};
 ghost use Rattle.evaluate.specs.Evaluating.{evaluateOf};
 ghost use Rattle.compilation.specs.Compiling.{compileOf};
+ghost use Rattle.quotation.specs.Quoting.{quoteOf};
 ghost use Rattle.abi.specs.Exported.{exported, exportedHead, programHead, circuitHead};
 ghost use Rattle.oracle.specs.Exported.{ExportedDemand3};
 
@@ -49,6 +52,16 @@ pub extern "C" fn oracle_evaluate(
     ensures { λ _. ⌜ now (values .exit) ≡ evaluateOf (now (file .entry)) (now (values .entry)) (now (inputs .entry)) output .values ⌝ }
 {
     evaluate_answer(evaluate(file, values, inputs, output))
+}
+
+// Quotes a program file; the value of a result is the number of outputs.
+#[no_mangle]
+pub extern "C" fn oracle_quote(file: &[u8], counts: &mut [u64], answers: &mut [u64]) -> OracleAnswer
+    ensures { λ r. ⌜ r ≡ exported (quoteOf (now (file .entry)) (now (counts .entry)) (now (answers .entry)) .answer) ⌝ }
+    ensures { λ _. ⌜ now (counts .exit) ≡ quoteOf (now (file .entry)) (now (counts .entry)) (now (answers .entry)) .counts ⌝ }
+    ensures { λ _. ⌜ now (answers .exit) ≡ quoteOf (now (file .entry)) (now (counts .entry)) (now (answers .entry)) .answers ⌝ }
+{
+    quote_answer(quote(file, counts, answers))
 }
 
 // Reads a circuit file; the value of a result is the number of gates.

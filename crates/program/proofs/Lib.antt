@@ -1,4 +1,5 @@
 pub mod AcceptedLaws
+pub mod BodyLaws
 pub mod FileLaws
 pub mod OperandLaws
 pub mod ReadingLaws

@@ -84,9 +84,9 @@ module _ (nodes outputs : List ℕ) (n : ℕ) where
     module _ {area : List ℕ} {gates k : ℕ} (p : Writing area₀ area gates k) where
       -- there is room for the next share, on any target
       pub writing-room : {t : ℕ} → k < m → CircuitRoom nodes outputs n area₀ → n ≤ t → t < n + m
-          → Room nodes (outputAt outputs k) t gates (n + m) (shareCount (treeIn nodes (outputAt outputs k))) area
+          → Room nodes (outputAt outputs k) t gates (n + m) (shareCount 1 (treeIn nodes (outputAt outputs k))) area
       writing-room {t} h w behind taken =
-          let next-length : length (next k) ≡ shareCount (treeIn nodes (outputAt outputs k)) = share-length (treeIn nodes (outputAt outputs k)) (n + k) (n + m) (omega arith) in
+          let next-length : length (next k) ≡ shareCount 1 (treeIn nodes (outputAt outputs k)) = share-length (treeIn nodes (outputAt outputs k)) (n + k) (n + m) (omega arith) in
           record {
             valid = record { inputs = n; ordered = w .ordered; inside = w .named k h };
             behind = behind;

@@ -13,9 +13,9 @@ use Rattle.node.proofs.TreeLaws.{trees-below}
 use Rattle.areas.proofs.WriterLaws.{put-length}
 use Rattle.construction.specs.Construction.{share}
 use Rattle.construction.specs.Pools.{allFree}
-use Rattle.construction.specs.Steps.{gateCount, shareCount}
+use Rattle.construction.specs.Steps.{builtCount, shareCount}
 use Rattle.construction.proofs.Numbers.{buildFrom, shareFrom, ApartFrom}
-use Rattle.construction.proofs.CountLaws.{own-few, share-length}
+use Rattle.construction.proofs.CountLaws.{share-length}
 use Rattle.construction.proofs.LineLaws.{build-formed}
 use Rattle.construction.proofs.PoolLaws.{share-gates, tree-lines}
 use Rattle.program.specs.Tables.{treeIn}
@@ -26,13 +26,13 @@ use Rattle.areas.proofs.AreaLaws.{put-back, stored-then}
 use Rattle.construct.proofs.BuiltLaws.{by-numbers}
 
 -- building takes no more gates than the share
-build-few : (e : Expr) → gateCount e ≤ shareCount e
+build-few : (e : Expr) → builtCount 1 e ≤ shareCount 1 e
 unfolding shareCount
-build-few e = omega (arith, own-few e)
+build-few e = omega arith
 
-module _ {nodes : List ℕ} {i t k f : ℕ} {area : List ℕ} (r : Room nodes i t k f (shareCount (treeIn nodes i)) area) where
+module _ {nodes : List ℕ} {i t k f : ℕ} {area : List ℕ} (r : Room nodes i t k f (shareCount 1 (treeIn nodes i)) area) where
   -- there is room to build
-  pub build-room : Room nodes i t k f (gateCount (treeIn nodes i)) area
+  pub build-room : Room nodes i t k f (builtCount 1 (treeIn nodes i)) area
   build-room =
       record {
         valid = r .valid;
@@ -58,7 +58,7 @@ module _ {nodes : List ℕ} {i t k f : ℕ} {area : List ℕ} (r : Room nodes i 
   built = buildFrom (treeIn nodes i) t f
 
   -- a share is as long as its two parts
-  share-parts : shareCount (treeIn nodes i) ≡ length built + length (uncompute (eqb t) built)
+  share-parts : shareCount 1 (treeIn nodes i) ≡ length built + length (uncompute (eqb t) built)
   unfolding shareFrom
   share-parts = sym (share-length (treeIn nodes i) t f (r .taken)) ∙ length-append built (uncompute (eqb t) built)
 

@@ -28,7 +28,7 @@ fn write_share(
     free: usize,
     area: &mut [u8],
 ) -> usize
-    requires { ⌜ Room (now nodes) i target gates free (shareCount (treeIn (now nodes) i)) (now area) ⌝ }
+    requires { ⌜ Room (now nodes) i target gates free (shareCount 1 (treeIn (now nodes) i)) (now area) ⌝ }
     ensures { λ r. ⌜ Stored (share (treeIn (now (nodes .entry)) i) target (allFree free) .gates) gates r (now (area .entry)) (now (area .exit)) ⌝ }
 {
     let to = build(nodes, i, target, gates, free, area) / LINE_NUMBERS;

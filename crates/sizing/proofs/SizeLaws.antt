@@ -1,6 +1,7 @@
 -- Laws of the sizes that the size list shows. Assumes nothing.
 use Prim.Native.Nat.{ℕ, _+_, _/_, _<_, _≤_}
 use native.Mathlib.Omega.{arith}
+use native.Mathlib.Nat.{add-zero}
 use mathlib.Core.Path.{_≡_, refl, sym, ap, _∙_}
 use mathlib.Core.Bool.{true, false}
 use mathlib.Core.List.{List, [], _∷_, _++_, map, flatMap}
@@ -8,9 +9,11 @@ use lib.ListN.{length, getD, length-map, List·getD-append}
 use lib.Dec.{leb}
 use borrow.Author.Tests.{leb-true, leb-false, le-leb, lt-leb}
 use Rattle.wire.specs.Limits.{mostSize}
+use Rattle.wire.specs.Shown.{shown}
 use Rattle.refusal.specs.Checks.{lowest}
 use Rattle.refusal.proofs.CheckLaws.{by-test, lowest-same}
 use Rattle.wire.proofs.ListLaws.{map-at, flat-single}
+use Rattle.wire.proofs.ShownLaws.{shown-sum, shown-more}
 use Rattle.node.specs.declared.nodes.Node.{Node}
 use Rattle.node.specs.declared.nodes.Node.the-variants.{Zero, One, Input, Not, Xor, And}
 use Rattle.node.specs.Exprs.{Expr, ZERO, size}
@@ -20,29 +23,29 @@ use Rattle.node.specs.Steps.{NextOf}
 use Rattle.node.specs.Trees.{treeOf, trees}
 use Rattle.node.proofs.TreeLaws.{nodes-count}
 use Rattle.node.proofs.FilledLaws.{entries-length, entry-at}
-use Rattle.sizing.specs.Sizing.{shown, nodeSizes}
+use Rattle.sizing.specs.Sizing.{shownSize, nodeSizes}
 use Rattle.sizing.specs.Steps.{entryFits}
 
 -- a size as shown is at most 16,384 just where the size is
-pub size-within : (s : ℕ) → leb (shown s) mostSize ≡ leb s mostSize
+pub size-within : (s : ℕ) → leb (shown mostSize s) mostSize ≡ leb s mostSize
 unfolding shown
 size-within s =
     by-test (leb s mostSize)
-    (λ t. le-leb (shown s) mostSize (omega (arith, leb-true s mostSize t)) ∙ sym t)
-    (λ t. lt-leb (shown s) mostSize (omega (arith, leb-false s mostSize t)) ∙ sym t)
+    (λ t. le-leb (shown mostSize s) mostSize (omega (arith, leb-true s mostSize t)) ∙ sym t)
+    (λ t. lt-leb (shown mostSize s) mostSize (omega (arith, leb-false s mostSize t)) ∙ sym t)
 
 -- there is an entry for each node; it shows the size of the node's tree
 pub sizes-length : (ns : List Node) → length (nodeSizes ns) ≡ length ns
 unfolding nodeSizes
-sizes-length ns = entries-length (λ e. shown (size e)) ns
+sizes-length ns = entries-length shownSize ns
 
-sizes-at : (ns : List Node) (i : ℕ) → i < length ns → getD (nodeSizes ns) i 0 ≡ shown (size (getD (trees ns) i ZERO))
+sizes-at : (ns : List Node) (i : ℕ) → i < length ns → getD (nodeSizes ns) i 0 ≡ shownSize (getD (trees ns) i ZERO)
 unfolding nodeSizes
-sizes-at ns i h = entry-at (λ e. shown (size e)) ns i h
+sizes-at ns i h = entry-at shownSize ns i h
 
 -- what a node adds to a list of sizes, by its kind: where the list shows the sizes of trees, its entry is made of its operands' entries
 abbrev pub NextSize : Node → List ℕ → ℕ → Type 0
-NextSize node list r = NextOf (λ e. shown (size e) ∷ []) node list (r ∷ [])
+NextSize node list r = NextOf (λ e. shownSize e ∷ []) node list (r ∷ [])
 
 pub next-zero : (ss : List ℕ) → NextSize Zero ss 1
 unfolding treeOf size shown
@@ -56,25 +59,28 @@ pub next-input : (ss : List ℕ) (j : ℕ) → NextSize (Input j) ss 1
 unfolding treeOf size shown
 next-input ss j ts e = refl
 
-module _ {ss : List ℕ} (ts : List Expr) (e : ss ≡ flatMap (λ e. shown (size e) ∷ []) ts) where
-  entry : (a : ℕ) → a < length ss → getD ss a 0 ≡ shown (size (getD ts a ZERO))
+module _ {ss : List ℕ} (ts : List Expr) (e : ss ≡ flatMap (λ e. shownSize e ∷ []) ts) where
+  entry : (a : ℕ) → a < length ss → getD ss a 0 ≡ shownSize (getD ts a ZERO)
   entry a h =
-      let is : ss ≡ map (λ t. shown (size t)) ts = e ∙ flat-single (λ t. shown (size t)) ts in
-      let n : length ss ≡ length ts = ap (λ (l : List ℕ). length l) is ∙ length-map ts (λ t. shown (size t)) in
-      ap (λ (l : List ℕ). getD l a 0) is ∙ map-at (λ (t : Expr). shown (size t)) ts a ZERO 0 (omega (arith, n))
+      let is : ss ≡ map shownSize ts = e ∙ flat-single shownSize ts in
+      let n : length ss ≡ length ts = ap (λ (l : List ℕ). length l) is ∙ length-map ts shownSize in
+      ap (λ (l : List ℕ). getD l a 0) is ∙ map-at shownSize ts a ZERO 0 (omega (arith, n))
 
-pub next-not : {ss : List ℕ} (a : ℕ) {r : ℕ} → a < length ss → r ≡ shown (1 + getD ss a 0 + 0) → NextSize (Not a) ss r
-unfolding treeOf size shown
-next-not a h p ts e = ap (λ (s : ℕ). s ∷ []) (omega (arith, p, entry ts e a h))
+pub next-not : {ss : List ℕ} (a : ℕ) {r : ℕ} → a < length ss → r ≡ shown mostSize (1 + getD ss a 0 + 0) → NextSize (Not a) ss r
+unfolding treeOf size
+next-not a h p ts e = ap (λ (s : ℕ). s ∷ []) (p ∙ rw (add-zero, entry ts e a h) (shown-more mostSize 1 (size (getD ts a ZERO))))
 
-module _ {ss : List ℕ} (a b : ℕ) {r : ℕ} (h : (a < length ss) × (b < length ss)) (p : r ≡ shown (1 + getD ss a 0 + getD ss b 0)) where
+module _ {ss : List ℕ} (a b : ℕ) {r : ℕ} (h : (a < length ss) × (b < length ss)) (p : r ≡ shown mostSize (1 + getD ss a 0 + getD ss b 0)) where
+  sum : (ts : List Expr) → ss ≡ flatMap (λ e. shownSize e ∷ []) ts → r ≡ shown mostSize (1 + size (getD ts a ZERO) + size (getD ts b ZERO))
+  sum ts e = p ∙ rw (entry ts e a (h .0), entry ts e b (h .1)) (shown-sum mostSize 1 (size (getD ts a ZERO)) (size (getD ts b ZERO)))
+
   pub next-xor : NextSize (Xor a b) ss r
-  unfolding treeOf size shown
-  next-xor ts e = ap (λ (s : ℕ). s ∷ []) (omega (arith, p, entry ts e a (h .0), entry ts e b (h .1)))
+  unfolding treeOf size
+  next-xor ts e = ap (λ (s : ℕ). s ∷ []) (sum ts e)
 
   pub next-and : NextSize (And a b) ss r
-  unfolding treeOf size shown
-  next-and ts e = ap (λ (s : ℕ). s ∷ []) (omega (arith, p, entry ts e a (h .0), entry ts e b (h .1)))
+  unfolding treeOf size
+  next-and ts e = ap (λ (s : ℕ). s ∷ []) (sum ts e)
 
 -- the test of the entry of output k, which names node i
 module _ (sizes outputs : List ℕ) (k : ℕ) {i : ℕ} (e : i ≡ outputAt outputs k) where
@@ -90,7 +96,7 @@ module _ (body : List ℕ) where
       → lowest (entryFits (nodeSizes (nodesIn body) ++ rest) outputs) k ≡ lowest (λ j. leb (size (getD (trees (nodesIn body)) (outputAt outputs j) ZERO)) mostSize) k
   sizes-lowest outputs rest k named =
       let ns : List Node = nodesIn body in
-      let entry : (i : ℕ) → i < length body / 6 → getD (nodeSizes ns ++ rest) i 0 ≡ shown (size (getD (trees (nodesIn body)) i ZERO)) =
+      let entry : (i : ℕ) → i < length body / 6 → getD (nodeSizes ns ++ rest) i 0 ≡ shownSize (getD (trees (nodesIn body)) i ZERO) =
       λ i h. List·getD-append (nodeSizes ns) rest 0 i (omega (arith, sizes-length ns, nodes-count body)) ∙ sizes-at ns i (omega (arith, nodes-count body)) in
       lowest-same (entryFits (nodeSizes ns ++ rest) outputs) (λ (j : ℕ). leb (size (getD (trees (nodesIn body)) (outputAt outputs j) ZERO)) mostSize) k
       (λ j h. ap (λ (s : ℕ). leb s mostSize) (entry (outputAt outputs j) (named j h)) ∙ size-within (size (getD (trees (nodesIn body)) (outputAt outputs j) ZERO)))

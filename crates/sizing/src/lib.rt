@@ -3,34 +3,34 @@ use node::nodes::Node;
 use node::nodes::node_at;
 use program::reader::output_at;
 use wire::limits::MOST_SIZE;
-use wire::limits::TOO_LARGE;
 ghost use mathlib.Core.Path.{_≡_};
 ghost use mathlib.Core.List.{[], _∷_, _++_};
 ghost use Prim.Native.Nat.{ℕ, _+_, _/_, _<_};
 ghost use lib.ListN.{length, drop};
 ghost use Rattle.refusal.specs.Checks.{lowest};
-ghost use Rattle.node.specs.Exprs.{size};
 ghost use Rattle.node.specs.Nodes.{nodesIn, NodeOk};
 ghost use Rattle.program.specs.Reading.{outputAt};
 ghost use Rattle.node.specs.Steps.{Fillable, NextOf};
-ghost use Rattle.sizing.specs.Sizing.{shown, nodeSizes};
+ghost use Rattle.wire.specs.Limits.{mostSize};
+ghost use Rattle.wire.specs.Shown.{shown};
+ghost use Rattle.sizing.specs.Sizing.{shownSize, nodeSizes};
 ghost use Rattle.sizing.specs.Steps.{entryFits};
 
 // A node's entry in the size list, where its operands have these entries.
 fn joined(a: u16, b: u16) -> u16
-    ensures { λ r. ⌜ r ≡ shown (1 + a + b) ⌝ }
+    ensures { λ r. ⌜ r ≡ shown mostSize (1 + a + b) ⌝ }
 {
     let sum = 1 + a as u64 + b as u64;
-    if sum < TOO_LARGE as u64 {
+    if sum <= MOST_SIZE as u64 {
         return sum as u16;
     }
-    TOO_LARGE
+    MOST_SIZE + 1
 }
 
 // A node's entry, where sizes has those of the nodes before it.
 fn node_size(node: Node, sizes: &[u16]) -> u16
     requires { ⌜ ((n : ℕ) × NodeOk n (length (now sizes)) node) ⌝ }
-    ensures { λ r. ⌜ NextOf (λ e. shown (size e) ∷ []) node (now (sizes .entry)) (r ∷ []) ⌝ }
+    ensures { λ r. ⌜ NextOf (λ e. shownSize e ∷ []) node (now (sizes .entry)) (r ∷ []) ⌝ }
 {
     match node {
         Node::Zero => 1,

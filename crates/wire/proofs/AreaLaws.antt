@@ -1,4 +1,4 @@
--- Laws of lent areas. Assumes nothing.
+-- Laws of lent areas and lists. Assumes nothing.
 use Prim.Native.Nat.{ℕ, _+_, _<_, _≤_}
 use native.Mathlib.Omega.{arith}
 use native.Mathlib.Nat.{zero-add}
@@ -20,22 +20,20 @@ area-written bytes area room e = e ∙ sets-eq bytes area 0 (omega arith) ∙ ap
 pub area-kept : (n p : ℕ) (area : List ℕ) → n ≢ 11 → areaAfter (refused n p) area ≡ area
 area-kept n p area h = rw (ne-eqb n 11 h)
 
--- a loop stores zero in every byte
-module _ (area₀ : List ℕ) where
-  abbrev pub zeros : List ℕ
-  zeros = replicate (length area₀) 0
+-- a loop stores zero in the first k numbers of a list
+module _ (k : ℕ) {list₀ list : List ℕ} {i : ℕ} (p : Filled (replicate k 0) list₀ list i) where
+  zeros-count : length {A = ℕ} (replicate k 0) ≡ k
+  zeros-count = length-replicate {A = ℕ} k 0
 
-  zeros-count : length zeros ≡ length area₀
-  zeros-count = length-replicate {A = ℕ} (length area₀) 0
+  pub cleared-next : i < k → k ≤ length list₀ → Filled (replicate k 0) list₀ (set list i 0) (i + 1)
+  cleared-next h fits = filled-next p (sym (getD-replicate k i 0 0 h)) (omega (arith, zeros-count)) (omega (arith, zeros-count))
 
-  module _ {area : List ℕ} {i : ℕ} (p : Filled zeros area₀ area i) where
-    pub cleared-next : i < length area → Filled zeros area₀ (set area i 0) (i + 1)
-    cleared-next h =
-        let below : i < length area₀ = omega (arith, p .same) in
-        filled-next p (sym (getD-replicate (length area₀) i 0 0 below)) (omega (arith, zeros-count)) (omega (arith, zeros-count))
+  pub cleared-all : k ≤ i → list ≡ replicate k 0 ++ drop k list₀
+  cleared-all h = filled-all p (omega (arith, zeros-count)) ∙ ap (λ (n : ℕ). replicate k 0 ++ drop n list₀) zeros-count
 
-    pub cleared-all : length area ≤ i → area ≡ zeros
-    cleared-all h =
-        filled-all p (omega (arith, zeros-count, p .same))
-        ∙ ap (λ (l : List ℕ). zeros ++ l) (drop-of-length-le area₀ {i = length zeros} (omega (arith, zeros-count)))
-        ∙ append-nil zeros
+-- and in every one of them
+pub cleared-whole : {list₀ list : List ℕ} {i : ℕ} → Filled (replicate (length list₀) 0) list₀ list i → length list₀ ≤ i → list ≡ replicate (length list₀) 0
+cleared-whole {list₀} p h =
+    cleared-all (length list₀) p h
+    ∙ ap (λ (l : List ℕ). replicate (length list₀) 0 ++ l) (drop-of-length-le list₀ {i = length list₀} (omega arith))
+    ∙ append-nil (replicate (length list₀) 0)

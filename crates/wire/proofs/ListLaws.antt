@@ -1,12 +1,12 @@
 -- Laws of lists at the code's next index, i + 1, and of runs of stores. Assumes nothing.
 use Prim.Native.Nat.{ℕ, zero, suc, _+_, _*_, _<_, _≤_}
 use native.Mathlib.Omega.{arith}
-use native.Mathlib.Nat.{add-zero, add-comm, mul-zero, mul-suc}
+use native.Mathlib.Nat.{add-zero, add-comm, mul-zero, mul-one, mul-suc, mul-add, mul-le-mul-left}
 use native.Mathlib.Numerals.{add-one}
 use mathlib.Core.Path.{_≡_, refl, sym, ap, ap₂, _∙_}
 use mathlib.Core.List.{List, [], _∷_, _++_, map, flatMap}
-use lib.ListN.{length, getD, take, drop, set, length-set, length-append, take-append-drop, drop-of-length-le}
-use lib.Seq.{sets, drop-cons, drop-drop, take-suc, take-nil, take-at, take-append-add, drop-append-add, getD-set-same, getD-set-other}
+use lib.ListN.{length, getD, take, drop, set, length-set, length-append, take-append-drop, drop-of-length-le, List·getD-append}
+use lib.Seq.{sets, getD-drop, drop-cons, drop-drop, take-suc, take-nil, take-at, take-append-add, drop-append-add, getD-set-same, getD-set-other}
 use Rattle.wire.specs.Lists.{tabulateFrom, tabulate}
 
 -- one element more is dropped
@@ -91,6 +91,23 @@ module _ {A : Type 0} (w : ℕ) (f : A → List ℕ) (wide : (a : A) → length 
       sym (take-append-drop w (drop (w * i) (flatMap f l)))
       ∙ ap₂ _++_ (flat-at l i d h) (drop-drop w (w * i) (flatMap f l))
 
+  -- number j of entry i, in a list that starts with the entries
+  module _ (l : List A) (rest : List ℕ) (i : ℕ) (h : i < length l) where
+    within : w * i + w ≤ length (flatMap f l)
+    within =
+        let inside : w * (i + 1) ≤ w * length l = mul-le-mul-left w (omega arith) in
+        omega (arith, flat-length l, mul-add w i 1, mul-one w)
+
+    pub flat-fits : w * i + w ≤ length (flatMap f l ++ rest)
+    flat-fits = omega (arith, within, length-append (flatMap f l) rest)
+
+    pub flat-number : (d : A) (j : ℕ) → j < w → getD (flatMap f l ++ rest) (w * i + j) 0 ≡ getD (f (getD l i d)) j 0
+    flat-number d j k =
+        List·getD-append (flatMap f l) rest 0 (w * i + j) (omega (arith, within))
+        ∙ sym (getD-drop (w * i) (flatMap f l) j 0)
+        ∙ ap (λ (m : List ℕ). getD m j 0) (flat-drop l i d h)
+        ∙ List·getD-append (f (getD l i d)) (drop (w * i + w) (flatMap f l)) 0 j (omega (arith, wide (getD l i d)))
+
   -- numbers that are, entry by entry, those of at 0, at 1, .., are the entries
   module _ (at : ℕ → A) (body : List ℕ) (k : ℕ) (long : length body ≡ w * k) (each : (i : ℕ) → i < k → drop (w * i) body ≡ f (at i) ++ drop (w * i + w) body) where
     only-from : (i r : ℕ) → i + r ≡ k → drop (w * i) body ≡ flatMap f (tabulateFrom at i r)
@@ -143,3 +160,14 @@ tabulateFrom-same f g i (suc k) h = ap₂ _∷_ (h i (omega arith) (omega arith)
 
 pub tabulate-same : {A : Type 0} (f g : ℕ → A) (k : ℕ) → ((j : ℕ) → j < k → f j ≡ g j) → tabulate f k ≡ tabulate g k
 tabulate-same f g k h = tabulateFrom-same f g 0 k (λ j p q. h j (omega arith))
+
+-- and so are the numbers of entries that have the same numbers
+flatFrom-same : {A B : Type 0} (f : A → List ℕ) (g : B → List ℕ) (a : ℕ → A) (b : ℕ → B) (i k : ℕ) → ((j : ℕ) → i ≤ j → j < i + k → f (a j) ≡ g (b j))
+    → flatMap f (tabulateFrom a i k) ≡ flatMap g (tabulateFrom b i k)
+unfolding flatMap tabulateFrom
+flatFrom-same f g a b i zero h = refl
+flatFrom-same f g a b i (suc k) h = ap₂ _++_ (h i (omega arith) (omega arith)) (flatFrom-same f g a b (suc i) k (λ j p q. h j (omega arith) (omega arith)))
+
+pub flat-same : {A B : Type 0} (f : A → List ℕ) (g : B → List ℕ) (a : ℕ → A) (b : ℕ → B) (k : ℕ) → ((j : ℕ) → j < k → f (a j) ≡ g (b j))
+    → flatMap f (tabulate a k) ≡ flatMap g (tabulate b k)
+flat-same f g a b k h = flatFrom-same f g a b 0 k (λ j p q. h j (omega arith))

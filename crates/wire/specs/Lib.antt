@@ -3,3 +3,4 @@ pub mod Bits
 pub mod Bytes
 pub mod Limits
 pub mod Lists
+pub mod Shown

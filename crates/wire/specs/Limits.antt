@@ -1,5 +1,5 @@
--- 01's limits of files and programs, one name each.
-use Prim.Native.Nat.{ℕ, _+_}
+-- The limits of files and programs (01, 02), one name each.
+use Prim.Native.Nat.{ℕ}
 
 -- the most inputs and the most outputs that a file may have
 abbrev pub mostInputs : ℕ
@@ -24,6 +24,6 @@ mostGates = 8000
 abbrev pub mostSize : ℕ
 mostSize = 16384
 
--- what the size list shows for every size above that
-abbrev pub tooLarge : ℕ
-tooLarge = mostSize + 1
+-- the largest number that a quote (02, A1) shows as it is
+abbrev pub mostQuoted : ℕ
+mostQuoted = 1000000

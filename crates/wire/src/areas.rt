@@ -1,6 +1,8 @@
-// Areas that are lent for writing.
+// Areas and lists that are lent for writing.
 ghost use mathlib.Core.Path.{_≡_};
-ghost use lib.ListN.{length, replicate};
+ghost use mathlib.Core.List.{_++_};
+ghost use Prim.Native.Nat.{_≤_};
+ghost use lib.ListN.{length, drop, replicate};
 
 // Stores zero in every byte.
 pub fn clear(area: &mut [u8])
@@ -10,5 +12,17 @@ pub fn clear(area: &mut [u8])
     while i < area.len() {
         area[i] = 0;
         i += 1;
+    }
+}
+
+// Stores zero in the first count numbers of a list.
+pub fn clear_first(list: &mut [u64], count: usize)
+    requires { ⌜ count ≤ length (now list) ⌝ }
+    ensures { λ _. ⌜ now (list .exit) ≡ replicate count 0 ++ drop count (now (list .entry)) ⌝ }
+{
+    let mut at = 0;
+    while at < count {
+        list[at] = 0;
+        at += 1;
     }
 }

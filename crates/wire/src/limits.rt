@@ -18,5 +18,5 @@ pub const MOST_GATES: usize = 8000;
 // The largest unfolded size of an output.
 pub const MOST_SIZE: u16 = 16384;
 
-// What the size list shows for every size above that.
-pub const TOO_LARGE: u16 = MOST_SIZE + 1;
+// The largest number that a quote shows as it is.
+pub const MOST_QUOTED: u64 = 1000000;

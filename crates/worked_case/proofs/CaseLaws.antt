@@ -19,7 +19,7 @@ use Rattle.construction.specs.Construction.{linesNeeded}
 use Rattle.construction.proofs.Numbers.{held, most, mostOf}
 use Rattle.construction.proofs.PoolLaws.{lines-needed}
 use Rattle.construction.specs.Counting.{gatesShown}
-use Rattle.construction.specs.Steps.{gateCount, ownCount, shareCount, sharesCount}
+use Rattle.construction.specs.Steps.{builtCount, undoneCount, shareCount, sharesCount}
 use Rattle.counting.specs.declared.Needs.{Needs}
 use Rattle.counting.specs.Counters.{AllCountable, Needed}
 use Rattle.program.specs.Tables.{treeIn, treesIn, Valid}
@@ -60,7 +60,7 @@ unfolding mostOf most held
 case-lines = lines-needed 4 (treesIn nodes outputs) ∙ ap mostOf case-trees
 
 case-gates : sharesCount (treesIn nodes outputs) ≡ 13
-unfolding sharesCount shareCount gateCount ownCount
+unfolding sharesCount shareCount builtCount undoneCount
 case-gates = ap sharesCount case-trees
 
 valid : Valid nodes 6

@@ -85,6 +85,27 @@ pub fn large(random: &mut Random) -> Program {
     Program::new(1, &nodes, &outputs)
 }
 
+/// Numbers about 1,000,000, which a quote shows exactly up to there: nodes that are built about so
+/// often, or half as often and undone as well, and some nodes above them.
+pub fn repeated(random: &mut Random) -> Program {
+    let mut nodes = vec![input(0), ONE, ZERO, and(2, 2), and(0, 1)];
+    let leaves = nodes.len();
+    for _ in 0..random.within(1..=3) {
+        let node = random.below(leaves) as u16;
+        let about = random.pick(&[1_000_000, 1_000_000, 500_000, 500_000, 333_333, 250_000]);
+        program::times(&mut nodes, node, about + random.below(9) - 4);
+        for _ in 0..random.below(4) {
+            let last = nodes.len() as u16 - 1;
+            let leaf = random.below(leaves) as u16;
+            let (a, b) = random.pick(&[(last, leaf), (leaf, last)]);
+            nodes.push(random.pick(&[not(last), xor(a, b), and(a, b)]));
+        }
+    }
+    let last = nodes.len() - 1;
+    let outputs: Vec<u16> = (0..6).map(|back| (last - back) as u16).collect();
+    Program::new(1, &nodes, &outputs)
+}
+
 /// 64 inputs and 64 outputs, with operands from anywhere.
 pub fn wide(random: &mut Random) -> Program {
     let mut nodes: Vec<Node> = (0..64).map(input).collect();

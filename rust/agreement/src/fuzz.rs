@@ -3,7 +3,7 @@
 use model::construct;
 
 use crate::compare::run::Direction::{self, Backwards, Forwards};
-use crate::compare::{compile, evaluate, read, run, undo};
+use crate::compare::{compile, evaluate, quote, read, run, undo};
 use crate::random::Random;
 use crate::tally::Tally;
 use crate::{circuit, damage, drawn, limits, program, shaped};
@@ -12,7 +12,7 @@ use crate::{circuit, damage, drawn, limits, program, shaped};
 pub struct Fuzz {
     shaped: Vec<Vec<u8>>,
     at_limits: Vec<Vec<u8>>,
-    tallies: [Tally; 7],
+    tallies: [Tally; 8],
 }
 
 impl Default for Fuzz {
@@ -21,6 +21,7 @@ impl Default for Fuzz {
             "read_program",
             "evaluate",
             "compile",
+            "quote",
             "read_circuit",
             "run_forwards",
             "run_backwards",
@@ -38,16 +39,17 @@ impl Default for Fuzz {
 impl Fuzz {
     /// A random file: good, damaged, compiled, shaped, or shaped and damaged; of both formats.
     pub fn file(&self, random: &mut Random) -> Vec<u8> {
-        match random.below(16) {
+        match random.below(17) {
             0..=1 => program::valid(random).bytes(),
             2 => drawn::any(random).bytes(),
             3 => drawn::large(random).bytes(),
-            4..=5 => drawn::accepted(random).bytes(),
-            6..=8 => program::damaged(random),
-            9..=10 => circuit::valid(random).bytes(),
-            11..=12 => circuit::damaged(random),
-            13 => compiled(random),
-            14 => self.shaped(random),
+            4 => drawn::repeated(random).bytes(),
+            5..=6 => drawn::accepted(random).bytes(),
+            7..=9 => program::damaged(random),
+            10..=11 => circuit::valid(random).bytes(),
+            12..=13 => circuit::damaged(random),
+            14 => compiled(random),
+            15 => self.shaped(random),
             _ => {
                 let file = self.shaped(random);
                 bytes_damaged(random, file)
@@ -66,11 +68,12 @@ impl Fuzz {
         let run = |random: &mut Random, direction: Direction| {
             run::compare(direction, file, &run::drawn(random, file)).0
         };
-        let [program, evaluated, compiled, circuit, forwards, backwards, undone] =
+        let [program, evaluated, compiled, quoted, circuit, forwards, backwards, undone] =
             &mut self.tallies;
         program.count(&read::PROGRAM.compare(file));
         evaluated.count(&evaluate::compare(&evaluate::drawn(random, file.to_vec())));
         compiled.count(&compile::compare(&compile::drawn(random, file.to_vec())));
+        quoted.count(&quote::compare(&quote::drawn(random, file.to_vec())));
         circuit.count(&read::CIRCUIT.compare(file));
         forwards.count(&run(random, Forwards));
         backwards.count(&run(random, Backwards));

@@ -19,6 +19,10 @@ impl Entry for u16 {
     const BESIDE: u16 = 0xa5c3;
 }
 
+impl Entry for u64 {
+    const BESIDE: u64 = 0xa5c3_96e1_78d2_b40f;
+}
+
 /// Lends a copy of the area to a call, and gives the call's answer and the area after it. Fails if
 /// the call wrote beside it.
 pub fn lent<E: Entry, T>(area: &[E], call: impl FnOnce(&mut [E]) -> T) -> (T, Vec<E>) {

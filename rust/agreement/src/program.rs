@@ -108,6 +108,20 @@ impl Program {
     }
 }
 
+/// Adds nodes that XOR a node so many times, at least once, and gives the number of the last.
+pub fn times(nodes: &mut Vec<Node>, node: u16, count: usize) -> u16 {
+    let mut last = node;
+    for bit in (0..count.ilog2()).rev() {
+        nodes.push(xor(last, last));
+        last = nodes.len() as u16 - 1;
+        if count >> bit & 1 == 1 {
+            nodes.push(xor(last, node));
+            last += 1;
+        }
+    }
+    last
+}
+
 /// A random program that every check accepts: all kinds, nodes used more than once, mostly few of them.
 pub fn valid(random: &mut Random) -> Program {
     let inputs = match random.below(6) {

@@ -15,7 +15,12 @@ pub const LINES: usize = 1152;
 
 /// 4,096 nodes of all kinds, and 64 outputs.
 pub fn of_all_kinds(random: &mut Random) -> Vec<u8> {
-    program::of_size(random, INPUTS, 64, MOST_NODES).bytes()
+    of_nodes(random, MOST_NODES)
+}
+
+/// So many nodes of all kinds, and 64 outputs.
+pub fn of_nodes(random: &mut Random, nodes: usize) -> Vec<u8> {
+    program::of_size(random, INPUTS, 64, nodes).bytes()
 }
 
 /// 4,096 nodes, NOT, XOR and AND of inputs, and 64 outputs of 2 gates, each a NOT or a XOR.

@@ -4,23 +4,28 @@ use std::hint::black_box;
 
 use agreement::compare::{MOST_BYTES, MOST_NODES};
 use agreement::random::Random;
+use oracle::{ANSWER_ENTRY, COUNT_ENTRY};
 
 use crate::files::{self, INPUTS, LINES};
 use crate::idiomatic::Refused;
 use crate::sides::{self, Side, ARCHIVE, RUST};
 
-use Service::{Compile, Evaluate, ReadCircuit, ReadProgram, RunBackwards, RunForwards, Undo};
+use Service::{
+    Compile, Evaluate, Quote, ReadCircuit, ReadProgram, RunBackwards, RunForwards, Undo,
+};
 
 /// How many files a job of the first table has.
 pub const FILES: usize = 32;
 
 const MOST_WORK_LINES: u64 = 1024;
+const MOST_OUTPUTS: usize = 64;
 
 /// What is done to the lent areas before a call.
 const NONE: &str = "none lent";
 const KEPT: &str = "not cleared";
 const RESET: &str = "lines reset to the start before each call, within its time";
 const CLEARED: &str = "not cleared before; the call clears the area";
+const COUNTS_CLEARED: &str = "not cleared before; the call clears the counts";
 
 /// A round: one side's calls with each file of a job in turn.
 pub type Round<'a> = Box<dyn FnMut() + 'a>;
@@ -43,15 +48,19 @@ pub enum Service {
     ReadProgram,
     Evaluate,
     Compile,
+    Quote,
     ReadCircuit,
     RunForwards,
     RunBackwards,
     Undo,
 }
 
-/// The services in the order of the tables.
-pub const SERVICES: [Service; 7] =
+/// The services of the table by gates, in its order.
+pub const BY_GATES: [Service; 7] =
     [ReadProgram, Evaluate, Compile, ReadCircuit, RunForwards, RunBackwards, Undo];
+
+/// The services of the table by nodes, which go over the nodes and build nothing.
+pub const BY_NODES: [Service; 3] = [ReadProgram, Evaluate, Quote];
 
 impl Service {
     pub fn name(self) -> &'static str {
@@ -59,6 +68,7 @@ impl Service {
             ReadProgram => "read_program",
             Evaluate => "evaluate",
             Compile => "compile",
+            Quote => "quote",
             ReadCircuit => "read_circuit",
             RunForwards => "run_forwards",
             RunBackwards => "run_backwards",
@@ -70,18 +80,19 @@ impl Service {
         match self {
             ReadProgram | ReadCircuit => NONE,
             Evaluate | Compile | Undo => KEPT,
+            Quote => COUNTS_CLEARED,
             RunForwards | RunBackwards => RESET,
         }
     }
 
     fn takes_program(self) -> bool {
-        matches!(self, ReadProgram | Evaluate | Compile)
+        matches!(self, ReadProgram | Evaluate | Compile | Quote)
     }
 
     /// Inputs, lines, or choices of about a third of the lines.
     fn bits(self, random: &mut Random) -> Vec<u8> {
         match self {
-            ReadProgram | Compile | ReadCircuit => vec![],
+            ReadProgram | Compile | Quote | ReadCircuit => vec![],
             Evaluate => random.bits(INPUTS),
             RunForwards | RunBackwards => random.bits(LINES),
             Undo => (0..LINES).map(|_| u8::from(random.once_in(3))).collect(),
@@ -140,6 +151,8 @@ impl Job {
 struct Areas {
     values: Vec<u8>,
     sizes: Vec<u16>,
+    counts: Vec<u64>,
+    answers: Vec<u64>,
     lines: Vec<u8>,
     area: Vec<u8>,
 }
@@ -149,6 +162,8 @@ impl Areas {
         Areas {
             values: vec![0; MOST_NODES],
             sizes: vec![0; MOST_NODES],
+            counts: vec![0; COUNT_ENTRY * MOST_NODES],
+            answers: vec![0; ANSWER_ENTRY * MOST_OUTPUTS],
             lines: Vec::new(),
             area: vec![0; MOST_BYTES],
         }
@@ -163,6 +178,10 @@ impl Areas {
             Compile => {
                 let (sizes, area) = (black_box(&mut self.sizes), black_box(&mut self.area));
                 seen((side.compile)(file, MOST_WORK_LINES, sizes, area))
+            }
+            Quote => {
+                let (counts, answers) = (black_box(&mut self.counts), black_box(&mut self.answers));
+                seen((side.quote)(file, counts, answers))
             }
             ReadCircuit => seen((side.read_circuit)(file)),
             RunForwards => seen((side.run_forwards)(file, self.reset(bits))),
@@ -206,6 +225,8 @@ pub fn largest(random: &mut Random) -> Vec<Job> {
         job(Compile, "8,000 gates, 64 outputs of ANDs", and_trees),
         job(Compile, "8,000 gates, one output of XORs", files::xor_tree),
         refused,
+        job(Quote, nodes, files::of_all_kinds),
+        job(Quote, "4,096 nodes, 64 outputs of 2 gates", files::small_outputs),
         job(ReadCircuit, gates, circuit),
         job(RunForwards, gates, circuit),
         job(RunBackwards, gates, circuit),
@@ -217,4 +238,10 @@ pub fn largest(random: &mut Random) -> Vec<Job> {
 pub fn of_gates(random: &mut Random, service: Service, gates: usize) -> Job {
     let draw = if service.takes_program() { files::and_trees } else { files::circuit };
     Job::new(random, service, "by gates", 64_000 / gates, |random| draw(random, gates))
+}
+
+/// A service on files of so many nodes of all kinds, as many as make 65,536 nodes.
+pub fn of_nodes(random: &mut Random, service: Service, nodes: usize) -> Job {
+    let draw = |random: &mut Random| files::of_nodes(random, nodes);
+    Job::new(random, service, "by nodes", 65_536 / nodes, draw)
 }

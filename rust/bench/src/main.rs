@@ -1,5 +1,5 @@
 //! Times the services beside the same jobs in idiomatic Rust, in one run, shows how the time grows
-//! with the gates, and finds the stack that compile takes:
+//! with the gates and with the nodes, and finds the stack that compile takes:
 //! `cargo run --offline --release -p bench`.
 //!
 //! Every job has many files, drawn at random and called in turn: on one file over and over, the
@@ -16,11 +16,12 @@ mod jobs;
 mod sides;
 mod stack;
 
-use jobs::{Job, Round, Service, FILES, SERVICES};
+use jobs::{Job, Round, BY_GATES, BY_NODES, FILES};
 use sides::{ARCHIVE, RUST};
 
-/// The numbers of gates of the second table.
+/// The numbers of gates of the second table, and of nodes of the third.
 const GATES: [usize; 4] = [1000, 2000, 4000, 8000];
+const NODES: [usize; 4] = [512, 1024, 2048, 4096];
 
 fn main() {
     stack::try_if_asked();
@@ -30,7 +31,8 @@ fn main() {
         println!("Without --release the Rust side is not optimised, and the ratio says nothing.");
     }
     ratios(&mut random);
-    growth(&mut random);
+    growth_by_gates(&mut random);
+    growth_by_nodes(&mut random);
     stack::print();
 }
 
@@ -59,7 +61,7 @@ the times more than the ratio.
 }
 
 /// How the time of liboracle.a grows with the number of gates.
-fn growth(random: &mut Random) {
+fn growth_by_gates(random: &mut Random) {
     println!(
         "
 Time of a call of liboracle.a, and of that a gate, by the gates of the circuit. A round goes over
@@ -67,22 +69,44 @@ files that have 64,000 gates together. Lines are reset before each call, and no 
 cleared.
 "
     );
-    let columns = GATES.map(|gates| format!("{:>21}", format!("{gates} gates"))).concat();
-    println!("{:<13} {columns}", "service");
-    for service in SERVICES {
-        let columns = GATES.map(|gates| time_of_gates(random, service, gates)).concat();
-        println!("{:<13} {columns}", service.name());
+    print_heading(GATES.map(|gates| format!("{gates} gates")));
+    for service in BY_GATES {
+        let jobs = GATES.map(|gates| (jobs::of_gates(random, service, gates), gates));
+        print_times(random, service.name(), jobs);
     }
 }
 
-fn time_of_gates(random: &mut Random, service: Service, gates: usize) -> String {
-    let job = jobs::of_gates(random, service, gates);
-    job.check(random);
-    let mut round = job.on(&ARCHIVE);
-    let mut times: Vec<Duration> = (0..job.rounds).map(|_| time(&job, &mut round)).collect();
-    let time = median(&mut times);
-    let nanoseconds = time.as_secs_f64() * 1e9 / gates as f64;
-    format!("{:>12} {nanoseconds:>5.1} ns", shown(time))
+/// How it grows with the number of nodes, where no gate is built.
+fn growth_by_nodes(random: &mut Random) {
+    println!(
+        "
+Time of a call of liboracle.a, and of that a node, by the nodes of the program. A round goes over
+files that have 65,536 nodes of all kinds together, and 64 outputs each. No buffer is cleared
+before a call.
+"
+    );
+    print_heading(NODES.map(|nodes| format!("{nodes} nodes")));
+    for service in BY_NODES {
+        let jobs = NODES.map(|nodes| (jobs::of_nodes(random, service, nodes), nodes));
+        print_times(random, service.name(), jobs);
+    }
+}
+
+fn print_heading(columns: [String; 4]) {
+    println!("{:<13} {}", "service", columns.map(|column| format!("{column:>21}")).concat());
+}
+
+/// A row: the time of a call of each job, and of that one of its gates or nodes.
+fn print_times(random: &mut Random, service: &str, jobs: [(Job, usize); 4]) {
+    let columns = jobs.map(|(job, count)| {
+        job.check(random);
+        let mut round = job.on(&ARCHIVE);
+        let mut times: Vec<Duration> = (0..job.rounds).map(|_| time(&job, &mut round)).collect();
+        let time = median(&mut times);
+        let nanoseconds = time.as_secs_f64() * 1e9 / count as f64;
+        format!("{:>12} {nanoseconds:>5.1} ns", shown(time))
+    });
+    println!("{service:<13} {}", columns.concat());
 }
 
 /// The times of both sides, measured in turn, so that what else the machine does meets both.

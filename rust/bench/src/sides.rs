@@ -2,7 +2,7 @@
 
 use std::fmt::Debug;
 
-use agreement::compare::{compile, evaluate, run, undo};
+use agreement::compare::{compile, evaluate, quote, run, undo};
 use agreement::fuzz::Fuzz;
 use agreement::random::Random;
 use oracle::{CircuitHead, ProgramHead};
@@ -12,6 +12,7 @@ use crate::idiomatic::{self, Refused};
 type ReadProgram = fn(&[u8]) -> Result<ProgramHead, Refused>;
 type Evaluate = fn(&[u8], &mut [u8], &[u8], u64) -> Result<bool, Refused>;
 type Compile = fn(&[u8], u64, &mut [u16], &mut [u8]) -> Result<usize, Refused>;
+type Quote = fn(&[u8], &mut [u64], &mut [u64]) -> Result<usize, Refused>;
 type ReadCircuit = fn(&[u8]) -> Result<CircuitHead, Refused>;
 type Run = fn(&[u8], &mut [u8]) -> Result<(), Refused>;
 type Undo = fn(&[u8], &[u8], &mut [u8]) -> Result<usize, Refused>;
@@ -21,6 +22,7 @@ pub struct Side {
     pub read_program: ReadProgram,
     pub evaluate: Evaluate,
     pub compile: Compile,
+    pub quote: Quote,
     pub read_circuit: ReadCircuit,
     pub run_forwards: Run,
     pub run_backwards: Run,
@@ -34,6 +36,7 @@ pub const ARCHIVE: Side = Side {
         oracle::evaluate(file, values, inputs, output).map_err(numbers)
     },
     compile: |file, grant, sizes, area| oracle::compile(file, grant, sizes, area).map_err(numbers),
+    quote: |file, counts, answers| oracle::quote(file, counts, answers).map_err(numbers),
     read_circuit: |file| oracle::read_circuit(file).map_err(numbers),
     run_forwards: |file, lines| oracle::run_forwards(file, lines).map_err(numbers),
     run_backwards: |file, lines| oracle::run_backwards(file, lines).map_err(numbers),
@@ -45,6 +48,7 @@ pub const RUST: Side = Side {
     read_program: idiomatic::program::read_program,
     evaluate: idiomatic::program::evaluate,
     compile: idiomatic::compile::compile,
+    quote: idiomatic::quote::quote,
     read_circuit: idiomatic::circuit::read_circuit,
     run_forwards: idiomatic::circuit::run_forwards,
     run_backwards: idiomatic::circuit::run_backwards,
@@ -63,13 +67,14 @@ pub fn agree(random: &mut Random, files: usize) {
         let file = fuzz.file(random);
         agree_on(random, &file);
     }
-    println!("Both sides answer alike on {files} files, each given to all seven services.");
+    println!("Both sides answer alike on {files} files, each given to all eight services.");
 }
 
 /// The same for one file.
 pub fn agree_on(random: &mut Random, file: &[u8]) {
     let evaluated = evaluate::drawn(random, file.to_vec());
     let compiled = compile::drawn(random, file.to_vec());
+    let quoted = quote::drawn(random, file.to_vec());
     let lines = run::drawn(random, file);
     let undone = undo::drawn(random, file.to_vec());
 
@@ -82,6 +87,10 @@ pub fn agree_on(random: &mut Random, file: &[u8]) {
     same(file, "compile", |side| {
         let (mut sizes, mut area) = (compiled.sizes.clone(), compiled.area.clone());
         ((side.compile)(file, compiled.grant, &mut sizes, &mut area), sizes, area)
+    });
+    same(file, "quote", |side| {
+        let (mut counts, mut answers) = (quoted.counts.clone(), quoted.answers.clone());
+        ((side.quote)(file, &mut counts, &mut answers), counts, answers)
     });
     same(file, "run", |side| {
         let (mut there, mut back) = (lines.clone(), lines.clone());

@@ -25,7 +25,7 @@ pub fn share(program: &Program, k: usize) -> Vec<Gate> {
 }
 
 /// The same, and the most work lines that were in use together.
-fn share_and_lines(program: &Program, k: usize) -> (Vec<Gate>, usize) {
+pub(crate) fn share_and_lines(program: &Program, k: usize) -> (Vec<Gate>, usize) {
     let target = program.inputs + k;
     let first_work_line = program.inputs + program.outputs.len();
     let Building { mut gates, lines, .. } =

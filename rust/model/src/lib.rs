@@ -1,5 +1,5 @@
-//! A second reading of document 01, in plain Rust and without the compiler's code: the services
-//! are held against it. Each check stands in the order of the table of causes.
+//! A second reading of documents 01 and 02, in plain Rust and without the compiler's code: the
+//! services are held against it. Each check stands in the order of the table of causes.
 
 pub mod circuit;
 pub mod compile;
@@ -7,7 +7,9 @@ pub mod construct;
 mod contents;
 pub mod evaluate;
 pub mod listing;
+mod natural;
 pub mod program;
+pub mod quote;
 pub mod run;
 pub mod undo;
 

@@ -57,6 +57,15 @@ mod c {
             area_len: usize,
         ) -> Answer;
 
+        pub fn oracle_quote(
+            file: *const u8,
+            file_len: usize,
+            counts: *mut u64,
+            counts_len: usize,
+            answers: *mut u64,
+            answers_len: usize,
+        ) -> Answer;
+
         pub fn oracle_read_circuit(file: *const u8, file_len: usize) -> Head;
 
         pub fn oracle_run_forwards(
@@ -119,6 +128,20 @@ pub fn compile(file: &[u8], grant: u64, sizes: &mut [u16], area: &mut [u8]) -> A
             sizes.len(),
             area.as_mut_ptr(),
             area.len(),
+        )
+    }
+}
+
+pub fn quote(file: &[u8], counts: &mut [u64], answers: &mut [u64]) -> Answer {
+    // SAFETY: see above.
+    unsafe {
+        c::oracle_quote(
+            file.as_ptr(),
+            file.len(),
+            counts.as_mut_ptr(),
+            counts.len(),
+            answers.as_mut_ptr(),
+            answers.len(),
         )
     }
 }
@@ -226,6 +249,22 @@ mod tests {
         assert_eq!(compile(&AND, 2, &mut sizes, &mut area[..67]), answer(11, 5));
         assert_eq!((&area[..67], &area[67..]), (&[0; 67][..], &[7; 3][..]));
         assert_eq!(compile(&AND, 2, &mut sizes, &mut []), answer(11, 5));
+    }
+
+    #[test]
+    fn the_answer_to_a_quote_is_the_number_of_outputs() {
+        let (mut counts, mut answers) = ([7; 26], [7; 5]);
+        assert_eq!(quote(&AND, &mut counts, &mut answers), answer(0, 1));
+        assert_eq!((&counts[..24], &counts[24..]), (&[0; 24][..], &[7; 2][..]));
+        assert_eq!(answers, [5, 1, 2, 7, 7]);
+
+        let (mut counts, mut answers) = ([7; 24], [7; 3]);
+        assert_eq!(quote(&[], &mut counts, &mut answers), answer(1, 0));
+        assert_eq!(quote(&changed(AND, 50, 2), &mut counts, &mut answers), answer(5, 2));
+        assert_eq!(quote(&AND, &mut counts[..23], &mut answers), answer(7, 0));
+        assert_eq!(quote(&AND, &mut counts, &mut answers[..2]), answer(7, 0));
+        assert_eq!(quote(&AND, &mut [], &mut []), answer(7, 0));
+        assert_eq!((counts, answers), ([7; 24], [7; 3]));
     }
 
     #[test]

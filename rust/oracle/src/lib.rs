@@ -34,9 +34,10 @@ impl Error for Refusal {}
 pub struct ProgramHead {
     /// The number of inputs, at most 64.
     pub inputs: usize,
-    /// The number of outputs, 1 to 64.
+    /// The number of outputs, 1 to 64: [`quote`] needs an answer for each.
     pub outputs: usize,
-    /// The number of nodes, 1 to 4,096: [`evaluate`] and [`compile`] need an entry for each.
+    /// The number of nodes, 1 to 4,096: [`evaluate`], [`compile`] and [`quote`] need an entry for
+    /// each.
     pub nodes: usize,
 }
 
@@ -59,6 +60,32 @@ impl CircuitHead {
     pub fn lines(&self) -> usize {
         self.inputs + self.outputs + self.work
     }
+}
+
+/// How many numbers [`quote`] needs in its count list for each node.
+pub const COUNT_ENTRY: usize = 8;
+
+/// How many numbers [`quote`] needs in its answer list for each output.
+pub const ANSWER_ENTRY: usize = 3;
+
+/// The largest number that a quote gives as it is. For every larger one it gives this and 1.
+pub const LARGEST_EXACT: u64 = 1_000_000;
+
+/// What the share of one output takes. A number over [`LARGEST_EXACT`] is not known: see [`exact`].
+#[derive(Debug, Clone, Copy, PartialEq, Eq)]
+pub struct Quote {
+    /// The number of gates.
+    pub gates: u64,
+    /// The number of Toffolis among them.
+    pub toffolis: u64,
+    /// The number of work lines. Each output starts with all of them free, so a circuit needs the
+    /// most of any output.
+    pub work: u64,
+}
+
+/// A number of a quote, or none where it only says that there are more than [`LARGEST_EXACT`].
+pub fn exact(number: u64) -> Option<u64> {
+    (number <= LARGEST_EXACT).then_some(number)
 }
 
 /// Reads and checks a program file and gives its numbers.
@@ -112,6 +139,29 @@ pub fn compile(
 ) -> Result<usize, Refusal> {
     let length = result(archive::compile(file, grant, sizes, area))?;
     Ok(length as usize)
+}
+
+/// Counts what each output of a program file takes, without building it, and gives the number of
+/// outputs. What [`compile`] refuses with 8 to 11 is counted too.
+///
+/// - `file` is only read.
+/// - `counts` needs [`COUNT_ENTRY`] numbers for each node. On a result these are zero, and the
+///   numbers past them are as they were. On a refusal all of it is as it was.
+/// - `answers` needs [`ANSWER_ENTRY`] numbers for each output. On a result these are the gates,
+///   Toffolis and work lines of output 0, then those of output 1, and so on, as [`quotes`] reads
+///   them, and the numbers past them are as they were. On a refusal all of it is as it was.
+///
+/// Refusals: 1 to 6 of the file; 7, `counts` or `answers` is too short.
+pub fn quote(file: &[u8], counts: &mut [u64], answers: &mut [u64]) -> Result<usize, Refusal> {
+    let outputs = result(archive::quote(file, counts, answers))?;
+    Ok(outputs as usize)
+}
+
+/// What [`quote`] left in an answer list, output by output. Where the list is longer than there are
+/// outputs, the numbers past theirs are read too, as far as they make whole answers.
+pub fn quotes(answers: &[u64]) -> impl Iterator<Item = Quote> + '_ {
+    let (answers, _) = answers.as_chunks::<ANSWER_ENTRY>();
+    answers.iter().map(|&[gates, toffolis, work]| Quote { gates, toffolis, work })
 }
 
 /// Reads and checks a circuit file and gives its numbers.
@@ -169,5 +219,30 @@ fn result(answer: Answer) -> Result<u64, Refusal> {
     match answer.number {
         0 => Ok(answer.value),
         number => Err(Refusal { number, place: answer.value }),
+    }
+}
+
+#[cfg(test)]
+mod tests {
+    use super::*;
+
+    #[test]
+    fn quotes_are_read_in_threes() {
+        let read = |answers: &[u64]| quotes(answers).collect::<Vec<_>>();
+        let first = Quote { gates: 5, toffolis: 1, work: 2 };
+        let second = Quote { gates: 9, toffolis: 7, work: 8 };
+        assert_eq!(read(&[]), []);
+        assert_eq!(read(&[5, 1]), []);
+        assert_eq!(read(&[5, 1, 2]), [first]);
+        assert_eq!(read(&[5, 1, 2, 9, 7]), [first]);
+        assert_eq!(read(&[5, 1, 2, 9, 7, 8]), [first, second]);
+    }
+
+    #[test]
+    fn a_million_is_the_largest_exact_number() {
+        assert_eq!(exact(0), Some(0));
+        assert_eq!(exact(999_999), Some(999_999));
+        assert_eq!(exact(1_000_000), Some(1_000_000));
+        assert_eq!(exact(1_000_001), None);
     }
 }

@@ -6,8 +6,7 @@ use lib.ListN.{length}
 use lib.Seq.{length-take-le}
 use Rattle.wire.proofs.FillLaws.{Filled, filled-start}
 use Rattle.node.specs.Nodes.{nodesIn}
-use Rattle.sizing.specs.Sizing.{shown, nodeSizes}
-use Rattle.node.specs.Exprs.{size}
+use Rattle.sizing.specs.Sizing.{shownSize, nodeSizes}
 use Rattle.node.proofs.FilledLaws.{entry-stored, entries-stored}
 use Rattle.node.proofs.TreeLaws.{next-ok}
 use Rattle.sizing.proofs.fill_sizes.Statement.{statement}
@@ -52,14 +51,14 @@ loop-again : tie.Need-loop-again Inv-loop μ-loop
 unfolding nodeSizes
 loop-again c =
     let at = c .before .before .before .before .loop in
-    entry-stored (λ e. shown (size e)) _ (at .inv) (c .before .before .before .before .before .before .before .pre .1) (c .before .before .before .loop-test .taken) (rw (c .before .before .node-at .ensures) at (c .node-size .ensures))
+    entry-stored shownSize _ (at .inv) (c .before .before .before .before .before .before .before .pre .1) (c .before .before .before .loop-test .taken) (rw (c .before .before .node-at .ensures) at (c .node-size .ensures))
 
 same-length : tie.Need-same-length Inv-loop μ-loop
 same-length c = c .before .loop .inv .same
 
 returns : tie.Need-returns Inv-loop μ-loop
 unfolding nodeSizes
-returns c = entries-stored (λ e. shown (size e)) _ (c .before .loop .inv) (c .loop-test .left)
+returns c = entries-stored shownSize _ (c .before .loop .inv) (c .loop-test .left)
 
 pub fill-sizes-spec : {M : Type 1} → statement M
 fill-sizes-spec =

@@ -1,5 +1,5 @@
 use native.Mathlib.Omega.{arith}
-use Rattle.sizing.specs.Sizing.{shown}
+use Rattle.wire.specs.Shown.{shown}
 use borrow.Author.Needs.{needs}
 use Rattle.sizing.proofs.joined.Statement.{statement}
 use Rattle.sizing.proofs.joined.Tie as tie
@@ -20,9 +20,12 @@ returns : tie.Need-returns
 unfolding shown
 returns c = omega arith
 
+add-result : tie.Need-add-result
+add-result c = search needs
+
 returns-2 : tie.Need-returns-2
 unfolding shown
 returns-2 c = omega arith
 
 pub joined-spec : {M : Type 1} → statement M
-joined-spec = tie.close (tie.spec add-sum add-sum-2 cast-if1 cast-result returns returns-2)
+joined-spec = tie.close (tie.spec add-sum add-sum-2 cast-if1 cast-result returns add-result returns-2)

@@ -3,6 +3,7 @@
 
 pub mod compile;
 pub mod evaluate;
+pub mod quote;
 pub mod read;
 pub mod run;
 pub mod undo;

@@ -6,6 +6,7 @@
 pub mod circuit;
 pub mod compile;
 pub mod program;
+pub mod quote;
 
 /// A refusal's number and place.
 pub type Refused = (u64, u64);

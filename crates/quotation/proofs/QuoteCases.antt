@@ -1,0 +1,42 @@
+-- Quotes that are computed: three outputs, and the numbers at the limit. Assumes nothing.
+use mathlib.Core.Path.{_≡_, refl}
+use mathlib.Core.List.{[], _∷_, flatMap}
+use Rattle.refusal.specs.Checks.{lowestFrom}
+use Rattle.wire.specs.Limits.{mostQuoted}
+use Rattle.wire.specs.Lists.{tabulateFrom}
+use Rattle.wire.specs.Shown.{shown}
+use Rattle.gate.specs.Gates.{target, toffoliCount}
+use Rattle.gate.specs.Running.{without, uncompute}
+use Rattle.node.specs.declared.nodes.Node.the-variants.{Input, Not, Xor, And}
+use Rattle.node.specs.Trees.{treeOf, treesFrom, trees}
+use Rattle.program.specs.Programs.{Program, outputTree}
+use Rattle.construction.specs.Pools.{isAmong, allFree, lowestFree, takeLine, freeAll}
+use Rattle.construction.specs.Construction.{build, share}
+use Rattle.quotation.specs.Quoting.{outputShare, shareQuote, quotes}
+
+-- outputs: the AND of inputs 0 and 1, its AND with input 2, and 1 XOR input 0 XOR the first
+abbrev threeOutputs : Program
+threeOutputs =
+    record {
+      inputs = 3;
+      nodes = Input 0 ∷ Input 1 ∷ And 0 1 ∷ Input 2 ∷ And 2 3 ∷ Not 0 ∷ Xor 5 2 ∷ [];
+      outputs = 2 ∷ 4 ∷ 6 ∷ [];
+    }
+
+-- the gates, Toffolis and work lines of each share
+pub three-quoted : quotes threeOutputs ≡ 5 ∷ 1 ∷ 2 ∷ 9 ∷ 3 ∷ 4 ∷ 7 ∷ 1 ∷ 2 ∷ []
+unfolding quotes flatMap tabulateFrom shareQuote outputShare outputTree trees treesFrom treeOf share build isAmong allFree lowestFree lowestFrom takeLine freeAll uncompute without target toffoliCount shown
+three-quoted = refl
+
+-- 1,000,000 is shown as it is, and every larger number as 1,000,001
+pub at-limit : shown mostQuoted 1000000 ≡ 1000000
+unfolding shown
+at-limit = refl
+
+pub above-limit : shown mostQuoted 1000002 ≡ 1000001
+unfolding shown
+above-limit = refl
+
+pub far-above : shown mostQuoted 18446744073709551616 ≡ 1000001
+unfolding shown
+far-above = refl

@@ -1,0 +1,484 @@
+//! quote: the archive beside the model, both lent lists before and after included.
+
+use agreement::compare::compile::written;
+use agreement::compare::quote::{archive, compare, drawn as call, model, numbers, Case, OVER};
+use agreement::program::{self, and, input, not, times, xor, Node, Program, ONE, ZERO};
+use agreement::random::Random;
+use agreement::tally::Tally;
+use agreement::{damage, drawn, limits, repository, shaped, Outcome};
+use model::circuit::Gate;
+
+/// The numbers of an entry, and of an answer.
+const ENTRY: usize = 8;
+const ANSWER: usize = 3;
+
+/// A shaped case on both sides, with what is expected of the answer and of both lists.
+fn check(name: &str, case: &Case, expected: Outcome<usize>, counts: &[u64], answers: &[u64]) {
+    let sides = [("model", model(case)), ("archive", archive(case))];
+    for (side, (outcome, counts_after, answers_after)) in sides {
+        assert_eq!(outcome, expected, "{name}, {side}, {}", case.describe());
+        assert!(counts_after == counts, "{name}, {side}, the counts, {}", case.describe());
+        assert_eq!(answers_after, answers, "{name}, {side}, the answers, {}", case.describe());
+    }
+}
+
+/// A list whose first numbers are these, and the others as they were.
+fn starting(with: &[u64], list: &[u64]) -> Vec<u64> {
+    [with, &list[with.len()..]].concat()
+}
+
+/// A case that is answered with these numbers: the count list is zero over the nodes, and what is
+/// behind them, and behind the answers, stays.
+fn answered(name: &str, case: &Case, nodes: usize, numbers: &[[u64; 3]]) {
+    let counts = starting(&vec![0; ENTRY * nodes], &case.counts);
+    let answers = starting(&numbers.concat(), &case.answers);
+    check(name, case, Ok(numbers.len()), &counts, &answers);
+}
+
+/// A case that is refused, and leaves both lists.
+fn refused(name: &str, case: &Case, refusal: (u64, u64)) {
+    check(name, case, Err(refusal), &case.counts, &case.answers);
+}
+
+/// Lengths that so many entries have, and longer ones: with a part of an entry behind them, with
+/// one entry more, with one and a part, and with many.
+fn long_enough(entries: usize, width: usize) -> [usize; 6] {
+    [0, 1, width - 1, width, width + 1, 400].map(|more| entries * width + more)
+}
+
+/// Lengths that are too short for so many entries, by one number, by one entry, or by more.
+fn too_short(entries: usize, width: usize) -> Vec<usize> {
+    let needed = entries * width;
+    let mut lengths = vec![needed - 1, needed - width + 1, needed - width, needed / 2, 1, 0];
+    lengths.retain(|length| *length < needed);
+    lengths
+}
+
+/// A program has these numbers, an output each: in all lists that are long enough, and in no other.
+fn gives(name: &str, program: &Program, numbers: &[[u64; 3]]) {
+    let (file, nodes) = (program.bytes(), program.nodes.len());
+    let enough = (long_enough(nodes, ENTRY), long_enough(numbers.len(), ANSWER));
+    let short = (too_short(nodes, ENTRY), too_short(numbers.len(), ANSWER));
+    for counts in enough.0 {
+        for answers in enough.1 {
+            answered(name, &Case::new(&file, counts, answers), nodes, numbers);
+        }
+        for answers in &short.1 {
+            refused(name, &Case::new(&file, counts, *answers), (7, 0));
+        }
+    }
+    for counts in short.0 {
+        for answers in enough.1.iter().chain(&short.1) {
+            refused(name, &Case::new(&file, counts, *answers), (7, 0));
+        }
+    }
+}
+
+#[test]
+fn the_whole_case() {
+    // C 0 3, C 1 4, T 3 4 2, C 1 4, C 0 3 on the work lines 3 and 4.
+    gives("the whole case", &shaped::program::whole_case(), &[[5, 1, 2]]);
+
+    let case = |counts, answers| Case::new(&shaped::program::WHOLE_CASE, counts, answers);
+    check("24 and 3 numbers", &case(24, 3), Ok(1), &[0; 24], &[5, 1, 2]);
+    refused("the counts short by a number", &case(23, 3), (7, 0));
+    refused("the answers short by a number", &case(24, 2), (7, 0));
+    refused("both short by a number", &case(23, 2), (7, 0));
+}
+
+#[test]
+fn the_other_examples() {
+    gives("NOR", &shaped::program::nor(), &[[9, 1, 2]]);
+    gives("AND of three", &shaped::program::and_of_three(), &[[9, 3, 4]]);
+    gives("AND of four", &shaped::program::and_of_four(), &[[13, 5, 6]]);
+    gives("XOR with itself", &shaped::program::xor_with_itself(), &[[2, 0, 0]]);
+    gives("ZERO", &shaped::program::output_zero(), &[[0, 0, 0]]);
+    gives("ONE", &Program::new(0, &[ONE], &[0]), &[[1, 0, 0]]);
+}
+
+/// A node is built anew at each use, on new lines. What is built into the target is not undone.
+#[test]
+fn shared_nodes_and_several_outputs() {
+    let nodes = [input(0), and(0, 0), xor(1, 1), not(2), and(3, 1), xor(4, 3)];
+    let numbers = [[1, 0, 0], [5, 1, 2], [10, 2, 4], [11, 2, 4], [21, 7, 8], [32, 9, 12]];
+    gives("each node", &Program::new(1, &nodes, &[0, 1, 2, 3, 4, 5]), &numbers);
+    gives("the last", &Program::new(1, &nodes, &[5]), &numbers[5..]);
+    let mixed = [numbers[4], numbers[0], numbers[4], numbers[2]];
+    gives("in another order", &Program::new(1, &nodes, &[4, 0, 4, 2]), &mixed);
+
+    // An AND takes two lines even where nothing is built into them.
+    let nodes = [ZERO, and(0, 0), and(1, 0), and(0, 1), and(1, 1)];
+    let numbers = [[1, 1, 2], [3, 3, 4], [3, 3, 4], [5, 5, 6]];
+    gives("ANDs of ZERO", &Program::new(0, &nodes, &[1, 2, 3, 4]), &numbers);
+}
+
+/// The content before has no part in the answers, and what is behind keeps every bit.
+#[test]
+fn later_entries_keep_their_content() {
+    let file = shaped::program::WHOLE_CASE;
+    for content in [0, 1, OVER, 0x5555_5555_5555_5555, 0xaaaa_aaaa_aaaa_aaaa, u64::MAX] {
+        for (counts, answers) in [(24, 3), (25, 4), (31, 5), (32, 6), (48, 192), (32_768, 9)] {
+            let case = Case {
+                file: file.to_vec(),
+                counts: vec![content; counts],
+                answers: vec![content; answers],
+            };
+            answered("one content", &case, 3, &[[5, 1, 2]]);
+        }
+    }
+}
+
+/// The most nodes, and the most outputs.
+#[test]
+fn the_longest_lists() {
+    gives("the longest file", &limits::longest_file(), &[[2, 0, 0]; 64]);
+    gives("4,096 NOTs", &limits::deepest(), &[[4_096, 0, 0]]);
+    let mut numbers = [[1, 0, 0]; 64];
+    numbers[63] = [2_049, 1_023, 1_024];
+    gives("1,152 lines", &limits::most_lines(), &numbers);
+}
+
+/// Each node uses the one before twice, so that numbers double up to 2^4000.
+fn doubled(first: Node, next: fn(u16, u16) -> Node) -> Vec<Node> {
+    let mut nodes = vec![first];
+    nodes.extend((0..4_000).map(|before| next(before, before)));
+    nodes
+}
+
+/// Depths of numbers over 1,000,000, some of them about 2^32 and 2^64.
+const DEPTHS: [u16; 16] = [20, 21, 30, 31, 32, 33, 34, 61, 62, 63, 64, 65, 66, 128, 3_999, 4_000];
+
+#[test]
+fn xor_of_a_node_with_itself_4000_deep() {
+    // Depth d has 2^d gates, none of them a Toffoli: 524,288 with 19, and 1,048,576 with 20.
+    let nodes = doubled(input(0), xor);
+    let depths: Vec<u16> = (0..20).chain(DEPTHS).collect();
+    let mut numbers: Vec<[u64; 3]> = (0..20).map(|depth| [1 << depth, 0, 0]).collect();
+    numbers.resize(depths.len(), [OVER, 0, 0]);
+    gives("XOR of an input", &Program::new(1, &nodes, &depths), &numbers);
+
+    gives("XOR of ZERO", &Program::new(0, &doubled(ZERO, xor), &[4_000]), &[[0, 0, 0]]);
+
+    // Depth d has 2^d times 5 gates, 1 Toffoli and 2 lines: no Toffoli is undone.
+    let mut nodes = vec![input(0), and(0, 0)];
+    nodes.extend((1..4_001).map(|before| xor(before, before)));
+    let outputs = [17, 18, 19, 20, 62, 63, 64, 4_000].map(|depth| depth + 1);
+    let mut numbers = [[OVER; 3]; 8];
+    numbers[0] = [655_360, 131_072, 262_144];
+    numbers[1] = [OVER, 262_144, 524_288];
+    numbers[2] = [OVER, 524_288, OVER];
+    gives("XOR of an AND", &Program::new(1, &nodes, &outputs), &numbers);
+}
+
+#[test]
+fn and_of_a_node_with_itself_4000_deep() {
+    // Depth d is built with 2^(d + 1) - 1 gates, 2^d - 1 of them Toffolis, each with two lines. All
+    // but the last Toffoli are undone.
+    let of_depth = |depth: u64| {
+        let (built, toffolis): (u64, u64) = ((2 << depth) - 1, (1 << depth) - 1);
+        [2 * built - 1, 2 * toffolis - 1, 2 * toffolis].map(|number| number.min(OVER))
+    };
+    assert_eq!(of_depth(1), [5, 1, 2]);
+    assert_eq!(of_depth(17), [524_285, 262_141, 262_142]);
+    assert_eq!(of_depth(18), [OVER, 524_285, 524_286]);
+    assert_eq!(of_depth(19), [OVER; 3]);
+    let nodes = doubled(input(0), and);
+    let depths: Vec<u16> = (1..20).chain(DEPTHS).collect();
+    let mut numbers: Vec<[u64; 3]> = (1..20).map(of_depth).collect();
+    numbers.resize(depths.len(), [OVER; 3]);
+    gives("AND of an input", &Program::new(1, &nodes, &depths), &numbers);
+
+    let deepest = Program::new(0, &doubled(ZERO, and), &[18, 19, 4_000]);
+    gives("AND of ZERO", &deepest, &[[524_285, 524_285, 524_286], [OVER; 3], [OVER; 3]]);
+
+    // Depth d has 2^(d + 1) - 2 gates and 2^d - 2 Toffolis to undo: -2 in 32 or 64 bits, and 0 or
+    // little more with those of a small operand beside it.
+    let mut nodes = nodes[..=64].to_vec();
+    let depths = [31, 32, 63, 64];
+    nodes.extend(depths.iter().flat_map(|depth| [0, 1, 2].map(|beside| and(*depth, beside))));
+    let outputs: Vec<u16> = (65..nodes.len() as u16).collect();
+    gives("AND of a small operand", &Program::new(1, &nodes, &outputs), &[[OVER; 3]; 12]);
+}
+
+/// INPUT 0, ZERO, and the ANDs of ZERO with itself, with the input and with the first AND; then one
+/// of these nodes so many times, and then more.
+fn repeated(node: u16, count: usize, more: &[fn(u16) -> Node]) -> Program {
+    let mut nodes = vec![input(0), ZERO, and(1, 1), and(0, 1), and(2, 1)];
+    let mut last = times(&mut nodes, node, count);
+    for next in more {
+        nodes.push(next(last));
+        last = nodes.len() as u16 - 1;
+    }
+    Program::new(1, &nodes, &[last])
+}
+
+#[test]
+fn a_million_gates() {
+    let into_target = |count| repeated(0, count, &[]);
+    gives("999,999", &into_target(999_999), &[[999_999, 0, 0]]);
+    gives("1,000,000", &into_target(1_000_000), &[[1_000_000, 0, 0]]);
+    gives("1,000,001", &into_target(1_000_001), &[[1_000_001, 0, 0]]);
+    gives("1,000,002", &into_target(1_000_002), &[[1_000_001, 0, 0]]);
+
+    // Gates into the first or the second line of an AND, all of them undone, and its Toffoli.
+    for above in [|a| and(a, 1), |a| and(1, a)] {
+        let undone = |count| repeated(0, count, &[above]);
+        gives("999,997", &undone(499_998), &[[999_997, 1, 2]]);
+        gives("999,999", &undone(499_999), &[[999_999, 1, 2]]);
+        gives("1,000,001", &undone(500_000), &[[1_000_001, 1, 2]]);
+        gives("1,000,003", &undone(500_001), &[[1_000_001, 1, 2]]);
+        for one_more in [not, |a| xor(a, 0), |a| xor(0, a)] {
+            let even = |count| repeated(0, count, &[above, one_more]);
+            gives("1,000,000", &even(499_999), &[[1_000_000, 1, 2]]);
+            gives("1,000,002", &even(500_000), &[[1_000_001, 1, 2]]);
+        }
+    }
+
+    // As many into the target as into a line, where they are undone.
+    let both = |count| repeated(0, count, &[|a| and(a, 1), |a| xor(a, a - 1)]);
+    gives("1,000,000", &both(333_333), &[[1_000_000, 1, 2]]);
+    gives("1,000,003", &both(333_334), &[[1_000_001, 1, 2]]);
+}
+
+/// Every gate here is a Toffoli.
+#[test]
+fn a_million_toffolis() {
+    let into_target = |count| repeated(2, count, &[]);
+    gives("999,999", &into_target(999_999), &[[999_999, 999_999, OVER]]);
+    gives("1,000,000", &into_target(1_000_000), &[[1_000_000, 1_000_000, OVER]]);
+    gives("1,000,001", &into_target(1_000_001), &[[1_000_001, 1_000_001, OVER]]);
+    gives("1,000,002", &into_target(1_000_002), &[[1_000_001, 1_000_001, OVER]]);
+
+    for above in [|a| and(a, 1), |a| and(1, a)] {
+        let undone = |count| repeated(2, count, &[above]);
+        gives("999,999", &undone(499_999), &[[999_999, 999_999, 1_000_000]]);
+        gives("1,000,001", &undone(500_000), &[[1_000_001, 1_000_001, OVER]]);
+        let even = |count| repeated(2, count, &[above, |a| xor(a, 2)]);
+        gives("999,998", &even(499_998), &[[999_998, 999_998, 1_000_000]]);
+        gives("1,000,000", &even(499_999), &[[1_000_000, 1_000_000, OVER]]);
+        gives("1,000,002", &even(500_000), &[[1_000_001, 1_000_001, OVER]]);
+    }
+}
+
+/// There are two lines for each AND, and so no odd number of them.
+#[test]
+fn a_million_work_lines() {
+    let into_target = |count| repeated(2, count, &[]);
+    gives("999,998", &into_target(499_999), &[[499_999, 499_999, 999_998]]);
+    gives("1,000,000", &into_target(500_000), &[[500_000, 500_000, 1_000_000]]);
+    gives("1,000,002", &into_target(500_001), &[[500_001, 500_001, 1_000_001]]);
+
+    // The lines of one operand beside those of the other, and the two of the last AND.
+    let last = |next: fn(u16) -> Node, count| repeated(2, count, &[next]);
+    gives("999,998", &last(|a| and(a, a), 249_999), &[[999_997, 999_997, 999_998]]);
+    gives("1,000,002", &last(|a| and(a, a), 250_000), &[[1_000_001; 3]]);
+    gives("1,000,000", &last(|a| xor(a, a), 250_000), &[[500_000, 500_000, 1_000_000]]);
+    gives("1,000,004", &last(|a| xor(a, a), 250_001), &[[500_002, 500_002, 1_000_001]]);
+    gives("1,000,000", &last(|a| and(a, 1), 499_999), &[[999_999, 999_999, 1_000_000]]);
+    gives("1,000,002", &last(|a| xor(2, a), 500_000), &[[500_001, 500_001, 1_000_001]]);
+}
+
+/// Numbers that are small in 32 or 64 bits, or added to another one there, are over all the same.
+#[test]
+fn numbers_that_are_small_in_fewer_bits() {
+    for power in [31, 32, 62, 63] {
+        for count in [(1 << power) - 1, 1 << power, (1 << power) + 1] {
+            let of = |node| repeated(node, count, &[]);
+            gives("gates on the target", &of(0), &[[OVER, 0, 0]]);
+            gives("Toffolis on the target", &of(2), &[[OVER; 3]]);
+            gives("gates on both", &of(3), &[[OVER; 3]]);
+            gives("Toffolis on both", &of(4), &[[OVER; 3]]);
+            let undone = |node| repeated(node, count, &[|a| and(1, a)]);
+            gives("gates on a work line", &undone(0), &[[OVER, 1, 2]]);
+            gives("Toffolis on a work line", &undone(2), &[[OVER; 3]]);
+        }
+    }
+    gives("2^64 - 1 gates", &repeated(0, usize::MAX, &[]), &[[OVER, 0, 0]]);
+    gives("2^64 gates", &repeated(0, usize::MAX, &[not]), &[[OVER, 0, 0]]);
+    gives("2^64 Toffolis", &repeated(2, usize::MAX, &[|a| xor(a, 2)]), &[[OVER; 3]]);
+    gives("2^64 gates to undo", &repeated(0, usize::MAX, &[not, |a| and(a, 1)]), &[[OVER, 1, 2]]);
+}
+
+/// Programs that compiling refuses, and what they are refused with.
+#[test]
+fn programs_that_do_not_compile() {
+    let refuses = |name: &str, program: &Program, refusal: (u64, u64), numbers: &[[u64; 3]]| {
+        assert_eq!(written(&program.bytes(), 1_024), Err(refusal), "{name}, compiled");
+        gives(name, program, numbers);
+    };
+    let chain = shaped::program::xor_chain();
+    refuses("size 16,385", &chain, (8, 2), &[[0, 0, 0], [1, 0, 0], [2, 0, 0]]);
+    let ands = Program::new(1, &doubled(input(0), and)[..15], &[14]);
+    refuses("size 32,767", &ands, (8, 0), &[[65_533, 32_765, 32_766]]);
+
+    let ands = Program::new(1, &doubled(input(0), and)[..14], &[13]);
+    refuses("16,382 lines", &ands, (10, 16_382), &[[32_765, 16_381, 16_382]]);
+    for input_first in [false, true] {
+        let ands = limits::ands(513, input_first);
+        refuses("1,026 lines", &ands, (10, 1_026), &[[2_053, 1_025, 1_026]]);
+        let ands = limits::ands(2_047, input_first);
+        refuses("4,094 lines", &ands, (10, 4_094), &[[8_189, 4_093, 4_094]]);
+    }
+
+    let numbers = [[8_000, 0, 0], [1, 0, 0]];
+    refuses("8,001 gates", &limits::a_gate_too_many(), (11, 8_001), &numbers);
+    let numbers = [[8_193, 0, 0]; 64];
+    refuses("524,352 gates", &limits::largest_outputs(64), (11, 524_352), &numbers);
+}
+
+/// The gates, Toffolis and work lines of the circuit file that a program file compiles to.
+fn compiled(file: &[u8]) -> [u64; 3] {
+    let circuit = model::circuit::read(&written(file, 1_024).expect("it compiles"));
+    let circuit = circuit.expect("a circuit file");
+    let toffolis = circuit.gates.iter().filter(|gate| matches!(gate, Gate::Toffoli(..))).count();
+    [circuit.gates.len(), toffolis, circuit.work].map(|number| number as u64)
+}
+
+/// Gates and Toffolis of a quote add up to those of the circuit, and its w is the most lines.
+fn sums_are_those_of_the_circuit(name: &str, file: &[u8]) {
+    let numbers = numbers(file);
+    let sum = |at: usize| numbers.iter().map(|numbers| numbers[at]).sum();
+    let most = numbers.iter().map(|numbers| numbers[2]).max().expect("an output");
+    assert_eq!([sum(0), sum(1), most], compiled(file), "{name}, {}", agreement::hex(file));
+}
+
+/// The same, and each output has the numbers of a circuit of its own.
+fn agrees_with_compiling(name: &str, program: &Program) {
+    let file = program.bytes();
+    sums_are_those_of_the_circuit(name, &file);
+    for (k, (output, numbers)) in program.outputs.iter().zip(numbers(&file)).enumerate() {
+        let alone = Program::new(program.inputs, &program.nodes, &[*output]).bytes();
+        assert_eq!(numbers, compiled(&alone), "{name}, output {k}, {}", agreement::hex(&file));
+    }
+}
+
+#[test]
+fn accepted_programs_have_the_numbers_of_their_circuits() {
+    for program in limits::accepted() {
+        agrees_with_compiling("a program at a limit", &program);
+    }
+    for name in ["and", "nor", "majority", "full_adder", "adder8", "adder32", "less8"] {
+        let file = repository::read(format!("examples/functions/{name}.program"));
+        sums_are_those_of_the_circuit(name, &file);
+    }
+    let mut random = Random::new(0x6167_7265);
+    for _ in 0..2_000 {
+        agrees_with_compiling("a random program", &drawn::accepted(&mut random));
+    }
+}
+
+/// Where an earlier cause is there as well, it is the one given.
+#[test]
+fn causes_together() {
+    let bad_output = Program::new(2, &[input(0), input(1), and(0, 1)], &[2, 3]).bytes();
+    let bad_node = Program::new(2, &[input(0), input(1), and(0, 2)], &[3]).bytes();
+    let good = shaped::program::WHOLE_CASE;
+    refused("5, 6 and 7", &Case::new(&bad_node, 23, 2), (5, 2));
+    refused("6 and 7, both lists", &Case::new(&bad_output, 0, 0), (6, 1));
+    refused("6 and 7, the counts", &Case::new(&bad_output, 23, 6), (6, 1));
+    refused("6 and 7, the answers", &Case::new(&bad_output, 24, 5), (6, 1));
+    refused("7, no lists", &Case::new(&good, 0, 0), (7, 0));
+    refused("7, no counts", &Case::new(&good, 0, 1_000), (7, 0));
+    refused("7, no answers", &Case::new(&good, 1_000, 0), (7, 0));
+}
+
+/// The refusals of reading come through as they are, whatever the lists.
+#[test]
+fn shaped_files_refused_by_the_reader() {
+    shaped::each_refused("quote", shaped::program::all(), |name, file, refusal| {
+        for (counts, answers) in [(32_768, 192), (0, 0), (7, 2), (40_000, 2)] {
+            refused(name, &Case::new(file, counts, answers), refusal);
+        }
+    });
+}
+
+/// Files that the reader accepts, in lists that are enough or too short by a number.
+#[test]
+fn shaped_files_accepted_by_the_reader() {
+    let mut tally = Tally::new("quote, shaped files");
+    shaped::each_accepted(shaped::program::all(), |_, file, head| {
+        let (counts, answers) = (ENTRY * head.count, ANSWER * head.outputs);
+        for counts in [counts, counts + 1, counts + ENTRY, counts - 1] {
+            for answers in [answers, answers + 1, answers + ANSWER, answers - 1] {
+                tally.count(&compare(&Case::new(file, counts, answers)));
+            }
+        }
+    });
+    tally.finish(500, &[7]);
+}
+
+/// Every one-byte change of a small file.
+#[test]
+fn each_byte_of_the_whole_case_changed() {
+    let mut tally = Tally::new("quote, one byte changed");
+    for file in damage::each_byte_changed(&shaped::program::WHOLE_CASE) {
+        for (counts, answers) in [(24, 3), (31, 5), (23, 3), (24, 2)] {
+            tally.count(&compare(&Case::new(&file, counts, answers)));
+        }
+    }
+    tally.finish(56 * 256 * 4, &[1, 2, 3, 4, 5, 6, 7]);
+}
+
+/// Every table of four nodes, each of them an output: 5,616 programs.
+#[test]
+fn every_small_table() {
+    let mut tables = vec![vec![]];
+    for i in 0..4 {
+        tables = tables.iter().flat_map(|table| longer_by_one(table, i)).collect();
+    }
+    let mut tally = Tally::new("quote, every small table");
+    for nodes in tables {
+        let file = Program::new(1, &nodes, &[0, 1, 2, 3]).bytes();
+        tally.count(&compare(&Case::new(&file, 4 * ENTRY, 4 * ANSWER)));
+    }
+    tally.finish(3 * 6 * 13 * 24, &[]);
+}
+
+/// The table with each node that can follow its first i.
+fn longer_by_one(table: &[Node], i: u16) -> Vec<Vec<Node>> {
+    let mut next = vec![ZERO, ONE, input(0)];
+    next.extend((0..i).map(not));
+    next.extend((0..i).flat_map(|a| (0..i).flat_map(move |b| [xor(a, b), and(a, b)])));
+    next.into_iter().map(|node| [table, &[node]].concat()).collect()
+}
+
+#[test]
+fn random_and_damaged_cases() {
+    let mut random = Random::new(0x7175_6f74);
+    let mut tally = Tally::new("quote");
+    // For gates, Toffolis and work lines: how often 0, about a million, and over.
+    let mut seen = [[0; 3]; 3];
+    for _ in 0..20_000 {
+        let case = random_case(&mut random);
+        let outcome = compare(&case);
+        tally.count(&outcome);
+        if outcome.is_ok() {
+            numbers(&case.file).iter().for_each(|numbers| count(&mut seen, numbers));
+        }
+    }
+    tally.finish(20_000, &[1, 2, 3, 4, 5, 6, 7]);
+    for (name, [none, near, over]) in ["gates", "Toffolis", "work lines"].iter().zip(seen) {
+        println!("quote, results: {none} with no {name}, {near} near 1,000,000, {over} over");
+        assert!(none > 500 && near > 500 && over > 500, "too few outputs of a kind");
+    }
+}
+
+fn count(seen: &mut [[u64; 3]; 3], numbers: &[u64; 3]) {
+    for (seen, number) in seen.iter_mut().zip(numbers) {
+        seen[0] += u64::from(*number == 0);
+        seen[1] += u64::from((999_990..=1_000_000).contains(number));
+        seen[2] += u64::from(*number == OVER);
+    }
+}
+
+/// Mostly a good file; then mostly lists that are long enough.
+fn random_case(random: &mut Random) -> Case {
+    let file = match random.below(8) {
+        0..=1 => program::damaged(random),
+        2 => program::valid(random).bytes(),
+        3 => drawn::large(random).bytes(),
+        4..=5 => drawn::repeated(random).bytes(),
+        _ => drawn::any(random).bytes(),
+    };
+    call(random, file)
+}

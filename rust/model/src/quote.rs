@@ -1,0 +1,285 @@
+//! Quoting a program: causes 1 to 7, and for each output the numbers of its share.
+//!
+//! The share of a small output is built, and its gates are counted. A large one may have more gates
+//! than any memory, so there the uses of each node are counted instead, in numbers of any size.
+
+use crate::circuit::Gate;
+use crate::natural::Natural;
+use crate::program::{self, Node, Program};
+use crate::{construct, Refusal};
+
+const COUNT_ENTRY: usize = 8;
+const ANSWER_ENTRY: usize = 3;
+const LARGEST_EXACT: u32 = 1_000_000;
+
+/// The largest unfolded size of an output whose share is built.
+const LARGEST_BUILT: usize = 2_000;
+
+/// Quotes each output and gives their number. A result makes the entries of the nodes in `counts`
+/// zero and fills those of the outputs in `answers`; a refusal leaves both.
+pub fn quote(file: &[u8], counts: &mut [u64], answers: &mut [u64]) -> Result<usize, Refusal> {
+    // 1 to 6
+    let program = program::read(file)?;
+
+    // 7: fewer whole entries than nodes, or fewer whole answers than outputs
+    let (nodes, outputs) = (program.nodes.len(), program.outputs.len());
+    if counts.len() / COUNT_ENTRY < nodes {
+        return Err(Refusal::of(7));
+    }
+    if answers.len() / ANSWER_ENTRY < outputs {
+        return Err(Refusal::of(7));
+    }
+
+    counts[..COUNT_ENTRY * nodes].fill(0);
+    for (k, numbers) in numbers(&program).into_iter().enumerate() {
+        answers[ANSWER_ENTRY * k..][..ANSWER_ENTRY].copy_from_slice(&numbers);
+    }
+    Ok(outputs)
+}
+
+/// The gates, Toffolis and work lines of each output, as they are shown.
+pub fn numbers(program: &Program) -> Vec<[u64; 3]> {
+    let sizes = construct::sizes(&program.nodes);
+    let of_output = |k: usize| {
+        let output = program.outputs[k];
+        if sizes[output] <= LARGEST_BUILT {
+            // At most 3,999 gates, far from a million.
+            built(program, k).map(|count| count as u64)
+        } else {
+            counted(&program.nodes, output).map(|count| shown(&count))
+        }
+    };
+    (0..program.outputs.len()).map(of_output).collect()
+}
+
+fn shown(count: &Natural) -> u64 {
+    count.at_most(LARGEST_EXACT).map_or(1_000_001, u64::from)
+}
+
+/// The gates, Toffolis and work lines of a share that is built.
+fn built(program: &Program, k: usize) -> [usize; 3] {
+    let (gates, lines) = construct::share_and_lines(program, k);
+    let toffolis = gates.iter().filter(|gate| matches!(gate, Gate::Toffoli(..))).count();
+    [gates.len(), toffolis, lines]
+}
+
+/// The same of an output with this node, from the uses of the nodes below it.
+fn counted(nodes: &[Node], output: usize) -> [Natural; 3] {
+    let mut counts: [Natural; 3] = Default::default();
+    let [gates, toffolis, lines] = &mut counts;
+    for (node, Uses { into_target, into_work_line }) in nodes.iter().zip(uses(nodes, output)) {
+        // A gate on the target is in the share once, one on a work line is undone as well.
+        let in_share = Natural::sum(&[&into_target, &into_work_line, &into_work_line]);
+        if !matches!(node, Node::Zero | Node::Xor(..)) {
+            gates.add(&in_share);
+        }
+        if matches!(node, Node::And(..)) {
+            toffolis.add(&in_share);
+            // Each use takes two lines, and none is given back before the share is over.
+            let taken = Natural::sum(&[&into_target, &into_work_line]);
+            lines.add(&taken);
+            lines.add(&taken);
+        }
+    }
+    counts
+}
+
+/// How often a node is built for an output.
+#[derive(Clone, Default)]
+struct Uses {
+    into_target: Natural,
+    into_work_line: Natural,
+}
+
+/// The uses of each node up to an output's, from the output down. Only an AND builds its operands
+/// into other lines than its own.
+fn uses(nodes: &[Node], output: usize) -> Vec<Uses> {
+    let mut uses = vec![Uses::default(); output + 1];
+    uses[output].into_target = Natural::one();
+    for i in (0..=output).rev() {
+        let (below, rest) = uses.split_at_mut(i);
+        let Uses { into_target, into_work_line } = &rest[0];
+        let operands = match nodes[i] {
+            Node::Zero | Node::One | Node::Input(_) => vec![],
+            Node::Not(a) => vec![a],
+            Node::Xor(a, b) | Node::And(a, b) => vec![a, b],
+        };
+        for a in operands {
+            let operand = &mut below[a];
+            operand.into_work_line.add(into_work_line);
+            match nodes[i] {
+                Node::And(..) => operand.into_work_line.add(into_target),
+                _ => operand.into_target.add(into_target),
+            }
+        }
+    }
+    uses
+}
+
+#[cfg(test)]
+mod tests {
+    use super::*;
+    use crate::program::tests::AND;
+
+    fn program(inputs: usize, nodes: &[Node], outputs: &[usize]) -> Program {
+        Program { inputs, nodes: nodes.to_vec(), outputs: outputs.to_vec() }
+    }
+
+    /// The numbers that are counted, where they are at most so large.
+    fn at_most(nodes: &[Node], output: usize, most: u32) -> [Option<u32>; 3] {
+        counted(nodes, output).map(|count| count.at_most(most))
+    }
+
+    /// The output's share has these numbers, built and counted.
+    fn gives(program: &Program, k: usize, numbers: [usize; 3]) {
+        assert_eq!(built(program, k), numbers, "built, output {k} of {:?}", program.nodes);
+        counted_as_built(program, k);
+    }
+
+    fn counted_as_built(program: &Program, k: usize) {
+        let nodes = &program.nodes;
+        let built = built(program, k).map(|number| Some(number as u32));
+        let counted = at_most(nodes, program.outputs[k], u32::MAX);
+        assert_eq!(counted, built, "counted, then built, output {k} of {nodes:?}");
+    }
+
+    /// Each way to go on with a table by one node.
+    fn each_next(i: usize) -> Vec<Node> {
+        let mut next = vec![Node::Zero, Node::One, Node::Input(0)];
+        for a in 0..i {
+            next.push(Node::Not(a));
+            next.extend((0..i).flat_map(|b| [Node::Xor(a, b), Node::And(a, b)]));
+        }
+        next
+    }
+
+    #[test]
+    fn shares_by_hand() {
+        use Node::{And, Input, Not, One, Xor, Zero};
+
+        gives(&program(2, &[Input(0), Input(1), And(0, 1)], &[2]), 0, [5, 1, 2]);
+        // NOR, and the AND of three and of four inputs.
+        gives(&program(2, &[Input(0), Input(1), Not(0), Not(1), And(2, 3)], &[4]), 0, [9, 1, 2]);
+        let ands = [Input(0), Input(1), And(0, 1), Input(2), And(2, 3), Input(3), And(4, 5)];
+        let four = program(4, &ands, &[4, 6, 0]);
+        gives(&four, 0, [9, 3, 4]);
+        gives(&four, 1, [13, 5, 6]);
+        gives(&four, 2, [1, 0, 0]);
+        // The Toffolis of a XOR of ANDs are all on the target, and are not undone.
+        gives(&program(1, &[Input(0), And(0, 0), Xor(1, 1)], &[2]), 0, [10, 2, 4]);
+        gives(&program(0, &[Zero, One, Not(1), Xor(2, 2)], &[3]), 0, [4, 0, 0]);
+        gives(&program(0, &[Zero, And(0, 0), Not(1)], &[2]), 0, [2, 1, 2]);
+    }
+
+    /// Every table of five nodes, its last as output: 219,024 of them.
+    #[test]
+    fn built_and_counted_alike_in_every_small_table() {
+        let mut tables = vec![vec![]];
+        for i in 0..5 {
+            let next = each_next(i);
+            let longer = |table: &Vec<Node>| {
+                next.iter().map(|node| [&table[..], &[*node]].concat()).collect::<Vec<_>>()
+            };
+            tables = tables.iter().flat_map(longer).collect();
+        }
+        assert_eq!(tables.len(), 3 * 6 * 13 * 24 * 39);
+        for nodes in &tables {
+            counted_as_built(&program(1, nodes, &[4]), 0);
+        }
+    }
+
+    /// A chain of XOR, NOT and AND in turn, up to sizes past those that are built for a quote.
+    #[test]
+    fn built_and_counted_alike_in_larger_trees() {
+        let mut nodes = vec![Node::Input(0)];
+        for i in (0..30).step_by(3) {
+            nodes.extend([Node::Xor(i, i), Node::Not(i + 1), Node::And(i + 2, i / 2)]);
+        }
+        let outputs: Vec<usize> = (0..nodes.len()).collect();
+        let sizes = construct::sizes(&nodes);
+        let program = program(1, &nodes, &outputs);
+        let small: Vec<usize> = outputs.into_iter().filter(|k| sizes[*k] <= 16_384).collect();
+        assert!(small.iter().any(|k| sizes[*k] > LARGEST_BUILT));
+        for k in small {
+            counted_as_built(&program, k);
+            let gates = construct::share_gate_count(&nodes, k);
+            assert_eq!(built(&program, k)[0], gates, "output {k}");
+        }
+    }
+
+    /// 2^4000 gates; and with ANDs 2^4001 - 1 gates before undoing, two lines for each Toffoli.
+    #[test]
+    fn trees_that_no_memory_holds() {
+        let chain = |first: Node, next: fn(usize) -> Node| {
+            let mut nodes = vec![first];
+            nodes.extend((0..4_000).map(next));
+            nodes
+        };
+        let xors = chain(Node::Input(0), |before| Node::Xor(before, before));
+        assert_eq!(at_most(&xors, 4_000, u32::MAX), [None, Some(0), Some(0)]);
+        assert_eq!(at_most(&xors, 31, u32::MAX), [Some(1 << 31), Some(0), Some(0)]);
+        assert_eq!(at_most(&xors, 32, u32::MAX), [None, Some(0), Some(0)]);
+
+        let ands = chain(Node::Input(0), |before| Node::And(before, before));
+        assert_eq!(at_most(&ands, 4_000, u32::MAX), [None; 3]);
+        // All but the last gate twice.
+        let (built, toffolis): (u32, u32) = ((1 << 21) - 1, (1 << 20) - 1);
+        let numbers = [2 * built - 1, 2 * toffolis - 1, 2 * toffolis].map(Some);
+        assert_eq!(at_most(&ands, 20, u32::MAX), numbers);
+
+        let zeros = chain(Node::Zero, |before| Node::Xor(before, before));
+        assert_eq!(at_most(&zeros, 4_000, 0), [Some(0); 3]);
+    }
+
+    /// Nodes of which the last has so many gates: node i has 2^i of them up to node 19.
+    fn of_gates(gates: usize) -> Vec<Node> {
+        let mut nodes = vec![Node::Input(0)];
+        nodes.extend((0..19).map(|before| Node::Xor(before, before)));
+        nodes.push(Node::Zero);
+        for power in (0..20).filter(|power| gates >> power & 1 == 1) {
+            nodes.push(Node::Xor(nodes.len() - 1, power));
+        }
+        nodes
+    }
+
+    #[test]
+    fn a_number_over_a_million_is_shown_as_the_next_one() {
+        let shown = |gates: usize| {
+            let nodes = of_gates(gates);
+            numbers(&program(1, &nodes, &[nodes.len() - 1, 3]))
+        };
+        assert_eq!(shown(999_999), [[999_999, 0, 0], [8, 0, 0]]);
+        assert_eq!(shown(1_000_000), [[1_000_000, 0, 0], [8, 0, 0]]);
+        assert_eq!(shown(1_000_001), [[1_000_001, 0, 0], [8, 0, 0]]);
+        assert_eq!(shown(1_000_002), [[1_000_001, 0, 0], [8, 0, 0]]);
+        assert_eq!(shown(1_048_575), [[1_000_001, 0, 0], [8, 0, 0]]);
+    }
+
+    #[test]
+    fn a_result_clears_the_counts_and_fills_the_answers() {
+        for behind in [0, 1, 20] {
+            let (mut counts, mut answers) = (vec![7; 24 + behind], vec![9; 3 + behind]);
+            assert_eq!(quote(&AND, &mut counts, &mut answers), Ok(1));
+            assert_eq!(counts, [vec![0; 24], vec![7; behind]].concat());
+            assert_eq!(answers, [vec![5, 1, 2], vec![9; behind]].concat());
+        }
+    }
+
+    #[test]
+    fn the_first_cause_counts_and_the_lists_stay() {
+        let refused = |file: &[u8], counts: usize, answers: usize| {
+            let (mut after, mut answers_after) = (vec![7; counts], vec![9; answers]);
+            let refusal = quote(file, &mut after, &mut answers_after).unwrap_err();
+            assert_eq!((after, answers_after), (vec![7; counts], vec![9; answers]));
+            (refusal.number, refusal.place)
+        };
+        assert_eq!(refused(&[], 0, 0), (1, 0));
+        let mut bad_node = AND;
+        bad_node[50] = 2;
+        assert_eq!(refused(&bad_node, 23, 2), (5, 2));
+        assert_eq!(refused(&AND, 23, 3), (7, 0));
+        assert_eq!(refused(&AND, 24, 2), (7, 0));
+        assert_eq!(refused(&AND, 23, 2), (7, 0));
+        assert_eq!(refused(&AND, 0, 0), (7, 0));
+    }
+}
