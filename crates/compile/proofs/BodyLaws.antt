@@ -17,7 +17,7 @@ use Rattle.program.specs.Programs.{outputTree}
 use Rattle.program.specs.Reading.{outputAt, programOf}
 use Rattle.node.specs.Trees.{trees}
 use Rattle.program.proofs.AcceptedLaws.{Accepted, inputs-is}
-use Rattle.program.proofs.BodyLaws.{outputs-count, names-node, nodes-ordered, named-tree}
+use Rattle.program.proofs.BodyLaws.{body-outputs, names-node, nodes-ordered, named-tree}
 use Rattle.program.proofs.ReadingLaws.{outputs-counted}
 use Rattle.construction.specs.Construction.{circuitGates, linesNeeded}
 use Rattle.construction.specs.Counting.{gatesShown}
@@ -38,7 +38,7 @@ module _ (f : List ℕ) (a : Accepted f) where
   unfolding treesIn outputTrees
   trees-same =
       tabulate-same (λ k. treeIn (bodyOf f 1) (outputAt (bodyOf f 2) k)) (outputTree (programOf f)) (length (bodyOf f 2) / 2) tree-same
-      ∙ ap (tabulate (outputTree (programOf f))) (outputs-count f a)
+      ∙ ap (tabulate (outputTree (programOf f))) (body-outputs f a)
 
   -- where no output is too large the shares can be counted
   pub countable : ((k : ℕ) → k < length (programOf f .outputs) → size (outputTree (programOf f) k) ≤ mostSize) → AllCountable (bodyOf f 1) (bodyOf f 2)
@@ -47,7 +47,7 @@ module _ (f : List ℕ) (a : Accepted f) where
         each = λ k h.
             record {
               valid = record { inputs = inputsOf f; ordered = nodes-ordered f a; inside = names-node f a k h };
-              small = rw (tree-same k h) (small k (omega (arith, outputs-count f a)));
+              small = rw (tree-same k h) (small k (omega (arith, body-outputs f a)));
             };
         outputs-most = omega (arith, outputs-counted f (a .sized), a .outputs-most);
       }

@@ -21,7 +21,7 @@ use Rattle.node.specs.Nodes.{nodesIn}
 use Rattle.program.specs.Programs.{Program}
 use Rattle.program.specs.Reading.{programOf, readProgram}
 use Rattle.program.proofs.AcceptedLaws.{Read, reader-room, same-nodes}
-use Rattle.program.proofs.BodyLaws.{node-count, head-nodes, fillable}
+use Rattle.program.proofs.BodyLaws.{body-nodes, head-nodes, fillable}
 use Rattle.sizing.specs.Sizing.{nodeSizes}
 use Rattle.node.specs.Steps.{Fillable}
 use Rattle.compilation.specs.Compiling.{compileProgram, readWithSizes, compileFile, sizesAfter, compileOf}
@@ -72,7 +72,7 @@ module _ (f : List ℕ) (grant : ℕ) (sizes area : List ℕ) where
     -- these sizes are those of the node body
     pub sizes-stored : nodeSizes (nodesIn (bodyOf f 1)) ++ drop (length (bodyOf f 1) / 6) sizes ≡ nodeSizes (programOf f .nodes) ++ drop (length (programOf f .nodes)) sizes
     sizes-stored =
-        ap₂ (λ (ns : List Node) (n : ℕ). nodeSizes ns ++ drop n sizes) (same-nodes f (r .accepts)) (node-count f (r .accepts))
+        ap₂ (λ (ns : List Node) (n : ℕ). nodeSizes ns ++ drop n sizes) (same-nodes f (r .accepts)) (body-nodes f (r .accepts))
 
 -- the nodes of a program that was read have sizes, and the list then holds them
 module _ {f : List ℕ} {h : Head} (r : Read f h) where

@@ -42,7 +42,7 @@ use Rattle.compile.specs.Steps.{Listed}
 use Rattle.shares.specs.Sharing.{CircuitRoom}
 use Rattle.sizing.specs.Sizing.{nodeSizes}
 use Rattle.sizing.specs.Steps.{entryFits}
-use Rattle.program.proofs.BodyLaws.{outputs-count, names-node, named-tree}
+use Rattle.program.proofs.BodyLaws.{body-outputs, names-node, named-tree}
 use Rattle.compile.proofs.BodyLaws.{trees-same, countable, lines-counted, gates-counted, fitting}
 use Rattle.compilation.proofs.ProgramLaws.{sizeFits, AllSmall, all-small, too-large, grant-large, lines-short, gates-many, area-short, fits}
 use Rattle.sizing.proofs.SizeLaws.{sizes-length, sizes-lowest}
@@ -83,7 +83,7 @@ module _ {f : List ℕ} {h : Head} {sizes : List ℕ} (l : Listed f h sizes) whe
       ∙ ap (λ (s : List ℕ). lowest (entryFits s (bodyOf f 2)) bodies) (l .listed ∙ ap (λ (ns : List Node). nodeSizes ns ++ l .later) (sym (same-nodes f accepts)))
       ∙ sizes-lowest (bodyOf f 1) (bodyOf f 2) (l .later) bodies (names-node f accepts)
       ∙ lowest-same (λ (j : ℕ). leb (size (getD (trees (nodesIn (bodyOf f 1))) (outputAt (bodyOf f 2) j) ZERO)) mostSize) (sizeFits (programOf f)) bodies (λ k q. ap (λ (t : Expr). leb (size t) mostSize) (named-tree f accepts k q))
-      ∙ ap (lowest (sizeFits (programOf f))) (outputs-count f accepts)
+      ∙ ap (lowest (sizeFits (programOf f))) (body-outputs f accepts)
 
   module _ (grant : ℕ) (area : List ℕ) {r : ℕ} (e : r ≡ lowest (entryFits sizes (bodyOf f 2)) (length (bodyOf f 2) / 2)) where
     pub size-refused : r ≢ h .outputs → Compiles (programOf f) grant area (refuse (cause.Size r)) area

@@ -15,7 +15,7 @@ use Rattle.node.specs.Nodes.{nodeAt, nodesIn}
 use Rattle.node.specs.Steps.{Fillable, NextOf}
 use Rattle.node.specs.Trees.{treeOf, trees}
 use Rattle.node.proofs.NodeLaws.{not-operand, xor-operands, and-operands}
-use Rattle.node.proofs.TreeLaws.{length-trees, nodes-count, node-in, node-inside}
+use Rattle.node.proofs.TreeLaws.{trees-count, node-in, node-inside}
 use Rattle.entry.specs.declared.Entry.{Entry}
 use Rattle.entry.specs.Entries.{leafEntry, entryOf, SmallEntry}
 use Rattle.entry.proofs.EntryLaws.{small, entry-zero, entry-one, entry-input}
@@ -123,7 +123,7 @@ and-tree n ts = rw n refl
 pub operands-listed : {n entries i : ℕ} {body list₀ list : List ℕ} {node : Node} → Fillable n body entries → Filled (nodeNumbers (nodesIn body)) list₀ list (8 * i) → i < length body / 6
     → node ≡ nodeAt body i → OperandsListed (take (8 * i) list) node
 operands-listed {n} {entries} {i} {body} s p h e =
-    let there : length (take i (trees (nodesIn body))) ≡ i = length-take-le i (trees (nodesIn body)) (omega (arith, length-trees (nodesIn body), nodes-count body)) in
+    let there : length (take i (trees (nodesIn body))) ≡ i = length-take-le i (trees (nodesIn body)) (omega (arith, trees-count body)) in
     record {
       trees = take i (trees (nodesIn body));
       listed = filled-front p ∙ flat-take 8 treeNumbers eight (trees (nodesIn body)) i;

@@ -22,8 +22,8 @@ use Rattle.node.specs.Trees.{nodeValues, trees}
 use Rattle.program.specs.Reading.{nodesOf, outputAt, programOf, readProgram}
 use Rattle.node.specs.Steps.{Fillable}
 use Rattle.program.proofs.AcceptedLaws.{Read, nodes-length, same-nodes, outputs-length, output-is, inputs-is}
-use Rattle.program.proofs.BodyLaws.{node-count, nodes-ordered, head-inputs, head-outputs, head-nodes}
-use Rattle.program.proofs.ReadingLaws.{nodes-counted, outputs-long}
+use Rattle.program.proofs.BodyLaws.{body-nodes, nodes-ordered, head-inputs, head-outputs, head-nodes}
+use Rattle.program.proofs.ReadingLaws.{outputs-long}
 use Rattle.node.proofs.ValueLaws.{values-length, values-at}
 use Rattle.evaluate.specs.Evaluating.{evaluateFile, evaluateOf}
 
@@ -80,7 +80,7 @@ module _ (f list x : List ℕ) (k : ℕ) where
           let n : length x ≡ inputsOf f = bits-count (h .inputs) x (q .bits) ∙ head-inputs r ∙ inputs-is f (r .accepts) in
           record {
             ordered = rw n (nodes-ordered f (r .accepts));
-            fits = omega (arith, node-count f (r .accepts), head-nodes r, q .room);
+            fits = omega (arith, body-nodes f (r .accepts), head-nodes r, q .room);
           }
 
       pub input-bits : Bits x
@@ -120,7 +120,7 @@ module _ (f list x : List ℕ) (k : ℕ) where
           let o = finds (programOf f) found in
           let rest : List ℕ = drop (length (programOf f .nodes)) list in
           let is : l ≡ all ++ rest =
-          w ∙ ap₂ (λ (ns : List Node) (n : ℕ). nodeValues ns x ++ drop n list) (same-nodes f (r .accepts)) (nodes-counted f (r .accepts .sized) ∙ sym (nodes-length f (r .accepts))) in
+          w ∙ ap₂ (λ (ns : List Node) (n : ℕ). nodeValues ns x ++ drop n list) (same-nodes f (r .accepts)) (body-nodes f (r .accepts)) in
           let bit-is : getD l (outputAt (bodyOf f 2) k) 0 ≡ outputValue (programOf f) x k =
           ap (λ (v : List ℕ). getD v (outputAt (bodyOf f 2) k) 0) is
           ∙ List·getD-append all rest 0 (outputAt (bodyOf f 2) k) (omega (arith, all-counted, r .accepts .outputs-fit k within))

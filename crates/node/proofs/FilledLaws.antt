@@ -14,7 +14,7 @@ use Rattle.node.specs.Exprs.{Expr, ZERO}
 use Rattle.node.specs.Nodes.{nodeAt, nodesIn, TableOk}
 use Rattle.node.specs.Steps.{Fillable, NextOf}
 use Rattle.node.specs.Trees.{treeOf, trees}
-use Rattle.node.proofs.TreeLaws.{length-trees, tree-same, trees-at, nodes-count, node-in, node-inside}
+use Rattle.node.proofs.TreeLaws.{length-trees, tree-same, trees-at, nodes-count, trees-count, node-in, node-inside}
 
 -- entries of w numbers each
 module _ (w : ℕ) (f : Expr → List ℕ) (wide : (e : Expr) → length (f e) ≡ w) where
@@ -31,20 +31,17 @@ module _ (w : ℕ) (f : Expr → List ℕ) (wide : (e : Expr) → length (f e) �
     abbrev every : List ℕ
     every = flatMap f (trees (nodesIn body))
 
-    count : length (trees (nodesIn body)) ≡ length body / 6
-    count = length-trees (nodesIn body) ∙ nodes-count body
-
     -- a loop has stored the entries of the first i nodes: the next one is stored
     pub run-stored : {n i entries : ℕ} (entry : List ℕ) {list₀ list : List ℕ} → Filled every list₀ list (w * i) → Fillable n body entries → w * entries ≤ length list₀ → i < length body / 6
         → NextOf f (nodeAt body i) (take (w * i) list) entry → Filled every list₀ (sets list (w * i) entry) (w * (i + 1))
     run-stored {n} {i} {entries} entry {list₀} {list} p s room h next =
         let known : entry ≡ f (getD (trees (nodesIn body)) i ZERO) = entry-next (nodesIn body) n i (s .ordered) (node-inside body i h) (rw (node-in body i h, ← filled-front p) next) in
-        let fits : w * length (trees (nodesIn body)) ≤ w * entries = mul-le-mul-left w (omega (arith, count, s .fits)) in
-        filled-entry w f wide (trees (nodesIn body)) ZERO i entry p (omega (arith, count)) (omega arith) known
+        let fits : w * length (trees (nodesIn body)) ≤ w * entries = mul-le-mul-left w (omega (arith, trees-count body, s .fits)) in
+        filled-entry w f wide (trees (nodesIn body)) ZERO i entry p (omega (arith, trees-count body)) (omega arith) known
 
     -- every entry is stored
     pub runs-stored : {list₀ list : List ℕ} {i : ℕ} → Filled every list₀ list (w * i) → length body / 6 ≤ i → list ≡ every ++ drop (w * (length body / 6)) list₀
-    runs-stored {list₀} p h = filled-entries w f wide (trees (nodesIn body)) p (omega (arith, count)) ∙ ap (λ (n : ℕ). every ++ drop (w * n) list₀) count
+    runs-stored {list₀} p h = filled-entries w f wide (trees (nodesIn body)) p (omega (arith, trees-count body)) ∙ ap (λ (n : ℕ). every ++ drop (w * n) list₀) (trees-count body)
 
 -- entries of one number each: the number of every node of a table
 module _ (f : Expr → ℕ) (ns : List Node) where

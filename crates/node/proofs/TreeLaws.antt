@@ -102,6 +102,9 @@ trees-below n ns w i = each-at n (treesFrom [] ns) (from-below n 0 [] ns (λ k p
 pub nodes-count : (body : List ℕ) → length (nodesIn body) ≡ length body / 6
 nodes-count body = tabulate-length (nodeAt body) (length body / 6)
 
+pub trees-count : (body : List ℕ) → length (trees (nodesIn body)) ≡ length body / 6
+trees-count body = length-trees (nodesIn body) ∙ nodes-count body
+
 -- node i of a node body
 module _ (body : List ℕ) (i : ℕ) (h : i < length body / 6) where
   pub node-in : getD (nodesIn body) i Zero ≡ nodeAt body i

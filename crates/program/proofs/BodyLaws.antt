@@ -18,11 +18,11 @@ use Rattle.program.proofs.AcceptedLaws.{Accepted, Read, nodes-length, s
 use Rattle.program.proofs.ReadingLaws.{nodes-counted, outputs-counted}
 
 module _ (f : List ℕ) (a : Accepted f) where
-  pub node-count : length (bodyOf f 1) / 6 ≡ length (programOf f .nodes)
-  node-count = nodes-counted f (a .sized) ∙ sym (nodes-length f a)
+  pub body-nodes : length (bodyOf f 1) / 6 ≡ length (programOf f .nodes)
+  body-nodes = nodes-counted f (a .sized) ∙ sym (nodes-length f a)
 
-  pub outputs-count : length (bodyOf f 2) / 2 ≡ length (programOf f .outputs)
-  outputs-count = outputs-counted f (a .sized) ∙ sym (outputs-length f a)
+  pub body-outputs : length (bodyOf f 2) / 2 ≡ length (programOf f .outputs)
+  body-outputs = outputs-counted f (a .sized) ∙ sym (outputs-length f a)
 
   -- every output names one of the nodes
   pub names-node : (k : ℕ) → k < length (bodyOf f 2) / 2 → outputAt (bodyOf f 2) k < length (bodyOf f 1) / 6
@@ -50,4 +50,4 @@ module _ {f : List ℕ} {h : Head} (r : Read f h) where
 
   -- a list with an entry for each node can be filled
   pub fillable : (entries : ℕ) → h .nodes ≤ entries → Fillable (inputsOf f) (bodyOf f 1) entries
-  fillable entries s = record { ordered = nodes-ordered f (r .accepts); fits = omega (arith, node-count f (r .accepts), head-nodes) }
+  fillable entries s = record { ordered = nodes-ordered f (r .accepts); fits = omega (arith, body-nodes f (r .accepts), head-nodes) }

@@ -51,12 +51,6 @@ map-at f [] i d e h = absurd (omega arith)
 map-at f (a ∷ l) zero d e h = refl
 map-at f (a ∷ l) (suc i) d e h = map-at f l i d e (omega arith)
 
--- the first elements of a mapped list
-pub take-map : {A B : Type 0} (f : A → B) (l : List A) (i : ℕ) → take i (map f l) ≡ map f (take i l)
-take-map f l zero = refl
-take-map f [] (suc i) = refl
-take-map f (a ∷ l) (suc i) = ap (λ m. f a ∷ m) (take-map f l i)
-
 mul-suc-front : (w n : ℕ) → w * suc n ≡ w + w * n
 mul-suc-front w n = mul-suc w n ∙ add-comm (w * n) w
 
