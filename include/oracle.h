@@ -112,6 +112,9 @@ oracle_answer oracle_compile(const uint8_t *file, size_t file_length, uint64_t g
 
 /* Reads and checks a circuit file.
  *
+ * A Toffoli's first control has to be lower than its second: this function and the three below
+ * refuse a gate that breaks this with 12. Exchanging the two changes nothing that the gate does.
+ *
  * Result: value is the number of gates, inputs, outputs and work are the circuit's. Refusals: 1 to
  * 4, 12. The file is only read.
  */

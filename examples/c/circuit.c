@@ -100,6 +100,9 @@ static void show_refusals(void)
     show_head("empty file", oracle_read_circuit(NULL, 0), (oracle_head){.number = 1});
     show_head("equal controls", oracle_read_circuit(damaged, LENGTH),
               (oracle_head){.number = 12, .value = 2});
+    damaged[48] = 3; /* and now they are lines 4 and 3, the higher one first */
+    show_head("exchanged controls", oracle_read_circuit(damaged, LENGTH),
+              (oracle_head){.number = 12, .value = 2});
     show("undo of that",
          oracle_undo(damaged, LENGTH, only_the_target, LINES, area, LENGTH), 12, 2);
     holds(filled(area, LENGTH, 9), "the area after refusal 12");
@@ -107,9 +110,11 @@ static void show_refusals(void)
     const uint8_t no_bit[LINES] = {1, 1, 0, 0, 2};
     uint8_t lines[LINES];
     memcpy(lines, no_bit, LINES);
+    show("exchanged controls, and line 4 is 2",
+         oracle_run_forwards(damaged, LENGTH, lines, LINES), 12, 2);
     show("line 4 is 2", oracle_run_forwards(and_circuit, LENGTH, lines, LINES), 13, 0);
     show("no lines", oracle_run_backwards(and_circuit, LENGTH, NULL, 0), 13, 0);
-    holds(memcmp(lines, no_bit, LINES) == 0, "the lines after refusal 13");
+    holds(memcmp(lines, no_bit, LINES) == 0, "the lines after refusals 12 and 13");
     show("choice 4 is 2", oracle_undo(and_circuit, LENGTH, no_bit, LINES, area, 1), 13, 0);
     holds(filled(area, LENGTH, 9), "the area after refusal 13");
 

@@ -1,4 +1,5 @@
 pub mod AcceptedLaws
+pub mod ControlOrderLaws
 pub mod FileLaws
 pub mod FormatLaws
 pub mod GateBodyLaws

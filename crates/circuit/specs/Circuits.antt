@@ -1,11 +1,13 @@
 -- A circuit: its lines by their use, and its gates.
 use Prim.Native.Nat.{ℕ, _+_, _/_, _≤_}
+use mathlib.Core.Path.{_≡_}
 use mathlib.Core.List.{List}
 use lib.ListN.{length}
 use Rattle.wire.specs.Limits.{mostGates, mostInputs, mostOutputs, mostWork}
 use Rattle.wire.specs.Lists.{tabulate}
 use Rattle.gate.specs.declared.gates.Gate.{Gate}
 use Rattle.gate.specs.Gates.{WellFormed, All}
+use Rattle.gate.specs.ControlOrder.{SameGates}
 use Rattle.gate_bytes.specs.GateBytes.{gateAt}
 use Rattle.circuit.specs.declared.reader.CircuitHead.{CircuitHead}
 
@@ -44,6 +46,17 @@ pub record InRange (h : CircuitHead) : Type 0 where
 pub record Legal (c : Circuit) : Type 0 where
   pub numbers : InRange (headOf c)
   pub formed : All (WellFormed (lineCount c)) (c .gates)
+
+-- two circuits are the same but for the order of controls (02): their numbers are equal, and so are their gates but for it
+pub record SameButOrder (c d : Circuit) : Type 0 where
+  pub numbers : headOf c ≡ headOf d
+  pub gates : SameGates (c .gates) (d .gates)
+
+-- a circuit that would be legal in another order of controls: one that is the same but for it is legal
+pub record LegalButOrder (c : Circuit) : Type 0 where
+  pub other : Circuit
+  pub legal : Legal other
+  pub same : SameButOrder c other
 
 -- the gates of a gate body
 abbrev pub gatesIn : List ℕ → List Gate

@@ -4,7 +4,8 @@ use mathlib.Core.Path.{_≡_}
 use mathlib.Core.List.{List}
 use Rattle.refusal.specs.Answers.{result}
 use Rattle.wire.specs.Bytes.{Bytes}
-use Rattle.circuit.specs.Circuits.{Circuit, Legal}
+use Rattle.gate.specs.Gates.{LinesFit, All}
+use Rattle.circuit.specs.Circuits.{Circuit, lineCount, headOf, InRange, Legal, SameButOrder, LegalButOrder}
 use Rattle.circuit.specs.Format.{circuitFile}
 use Rattle.circuit.specs.Reading.{readCircuit}
 
@@ -24,3 +25,12 @@ OnlyWriting = (f : List ℕ) (c : Circuit) → Bytes f → readCircuit f ≡ res
 -- two accepted files that give the same circuit are the same bytes
 abbrev pub SameBytes : Type 0
 SameBytes = (f g : List ℕ) (c : Circuit) → Bytes f → Bytes g → readCircuit f ≡ result c → readCircuit g ≡ result c → f ≡ g
+
+-- two accepted files whose circuits are the same but for the order of controls are the same bytes
+abbrev pub OneOrder : Type 0
+OneOrder =
+    (f g : List ℕ) (c d : Circuit) → Bytes f → Bytes g → readCircuit f ≡ result c → readCircuit g ≡ result d → SameButOrder c d → f ≡ g
+
+-- no circuit is lost by the order: one in range whose gates are on different lines is legal but for it
+abbrev pub NoneLost : Type 0
+NoneLost = (c : Circuit) → InRange (headOf c) → All (LinesFit (lineCount c)) (c .gates) → LegalButOrder c

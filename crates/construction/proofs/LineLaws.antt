@@ -130,7 +130,7 @@ build-formed n (AND a b) t f L p =
     (build-formed n a f (f + 1) L (apart-and-first p))
     (all-append _ (buildFrom b (second f a) (second f a + 1)) _
     (build-formed n b (second f a) (second f a + 1) L (apart-and-second p))
-    (toffoli-formed L f (second f a) t lines, tt))
+    (toffoli-formed L f (second f a) t (omega arith) lines, tt))
 
 -- every line but t and those taken stays as it was
 pub build-leaves-from : (e : Expr) (t f : ℕ) (s : List ℕ) (i : ℕ) → i ≢ t → (f ≤ i → f + most e ≤ i) → bit (run (buildFrom e t f) s) i ≡ bit s i

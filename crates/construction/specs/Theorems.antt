@@ -58,11 +58,11 @@ BuildLeaves = (e : Expr) (t f : ℕ) (s : List ℕ) (i : ℕ) → i ≢ t → (f
 abbrev pub TargetNoControl : Type 0
 TargetNoControl = (n : ℕ) (e : Expr) (t f L : ℕ) → Apart n e t f L → All (Spares (eqb t)) (treeGates e t f)
 
--- every gate of a share is well formed on its lines
+-- every gate of a share is well formed on its lines, a Toffoli's lower control first
 abbrev pub ShareFormed : Type 0
 ShareFormed = (n : ℕ) (e : Expr) (t f L : ℕ) → Apart n e t f L → All (WellFormed L) (share e t (allFree f) .gates)
 
--- every gate of a circuit is well formed on its n inputs, its targets and the work lines needed
+-- and so is every gate of a circuit, on its n inputs, its targets and the work lines needed
 abbrev pub CircuitFormed : Type 0
 CircuitFormed = (n : ℕ) (es : List Expr) → EachBelow n es → All (WellFormed (n + length es + linesNeeded n es)) (circuitGates n es)
 

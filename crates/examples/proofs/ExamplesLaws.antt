@@ -9,7 +9,7 @@ use Rattle.refusal.specs.Checks.{lowestFrom}
 use Rattle.contents.specs.Contents.{tableFits, entriesFrom, entriesFit, entriesBytes, contentsBytes}
 use Rattle.contents.specs.Arity.{arityFits}
 use Rattle.wire.specs.Lists.{tabulateFrom}
-use Rattle.gate.specs.Gates.{target, wellFormed}
+use Rattle.gate.specs.Gates.{target, linesFit, lowerFirst, wellFormed}
 use Rattle.gate_bytes.specs.GateBytes.{gateBytes, gatesBytes, gateAt, gateFits, fieldsFit}
 use Rattle.gate.specs.Running.{addend, step, run, without, uncompute}
 use Rattle.circuit.specs.Format.{openingBytes, circuitFile, fileLength}
@@ -36,7 +36,7 @@ use Rattle.examples.specs.Examples.{wholeFile, norFile, threeFile, xorFi
 use Rattle.examples.proofs.RowLaws.{Known, lines-refused, area-refused, written, lists-refused, row}
 
 pub examples : Examples
-unfolding programFile nodeBytes readProgram readBodies tableFits entriesFit entriesFrom lengthsFit arityFits nodeFits operandsFit outputFits programOf nodeAt lowestFrom size nodeSizes shown programCircuit outputTrees outputTree tabulateFrom trees treesFrom treeOf construction.circuitGates allShares shares share build isAmong allFree lowestFree takeLine freeAll linesNeeded gatesShown uncompute without target circuitFile openingBytes contentsBytes entriesBytes gatesBytes gateBytes runForwards circuit.readWithLines circuit.readCircuit circuit.readHead circuit.headIn circuit.circuitOf circuit.lengthsFit circuit.rangesFit gateFits fieldsFit wellFormed gateAt bitsFit run step addend xorBit listing firstLine gateLine refusedLine line field decimal digitCount flatMap
+unfolding programFile nodeBytes readProgram readBodies tableFits entriesFit entriesFrom lengthsFit arityFits nodeFits operandsFit outputFits programOf nodeAt lowestFrom size nodeSizes shown programCircuit outputTrees outputTree tabulateFrom trees treesFrom treeOf construction.circuitGates allShares shares share build isAmong allFree lowestFree takeLine freeAll linesNeeded gatesShown uncompute without target circuitFile openingBytes contentsBytes entriesBytes gatesBytes gateBytes runForwards circuit.readWithLines circuit.readCircuit circuit.readHead circuit.headIn circuit.circuitOf circuit.lengthsFit circuit.rangesFit gateFits fieldsFit wellFormed lowerFirst linesFit gateAt bitsFit run step addend xorBit listing firstLine gateLine refusedLine line field decimal digitCount flatMap
 examples =
     let whole : Known wholeFile = record { reads = refl; small = refl; few = omega arith } in
     let nor : Known norFile = record { reads = refl; small = refl; few = omega arith } in
@@ -48,6 +48,7 @@ examples =
       whole-length = refl;
       whole-bytes = record { writes = refl; reads = refl };
       wide-bytes = record { writes = refl; reads = refl };
+      wide-order = refl;
       whole-area = λ grant sizes area. area-refused whole grant sizes area 67 (omega arith);
       whole-grant = λ sizes area. lines-refused whole 1 sizes area (omega arith) (omega arith);
       whole-refused = lists-refused whole 1 (omega arith) (omega arith) (omega arith);

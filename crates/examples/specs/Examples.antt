@@ -3,7 +3,7 @@ use Prim.Native.Nat.{ℕ, _≤_}
 use Prim.Native.String.{String}
 use mathlib.Core.Path.{_≡_}
 use mathlib.Core.List.{List, [], _∷_, _++_}
-use lib.ListN.{length, drop, replicate}
+use lib.ListN.{length, take, drop, replicate}
 use Rattle.refusal.specs.Answers.{result, refused}
 use Rattle.gate.specs.declared.gates.Gate.the-variants.{Cnot, Toffoli}
 use Rattle.gate.specs.declared.gates.Gate.the-variants as gate
@@ -155,6 +155,8 @@ pub record Examples : Type 0 where
   pub whole-bytes : FileBytes wholeCircuit wholeCircuitFile
   -- a second file byte for byte, with a NOT and w over 255
   pub wide-bytes : FileBytes wideCircuit wideCircuitFile
+  -- with the controls of its last gate exchanged it gives 12, place 2
+  pub wide-order : readCircuit (take 44 wideCircuitFile ++ (0x03 ∷ 0x00 ∷ 0x03 ∷ 0x01 ∷ 0x00 ∷ 0x01 ∷ 0x02 ∷ 0x00 ∷ [])) ≡ refused 12 2
   -- an area of 67 gives 11, place 5, and is all zero
   pub whole-area : (grant : ℕ) (sizes area : List ℕ) → 2 ≤ grant → grant ≤ 1024 → 3 ≤ length sizes → length area ≡ 67
       → compileOf wholeFile grant sizes area ≡ record { answer = refused 11 5; sizes = 1 ∷ 1 ∷ 3 ∷ drop 3 sizes; area = replicate 67 0 }

@@ -1,4 +1,5 @@
 pub mod AllLaws
+pub mod ControlOrderLaws
 pub mod OrderCase
 pub mod StepLaws
 pub mod ToffoliLaws

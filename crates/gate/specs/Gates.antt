@@ -27,15 +27,29 @@ toffoliCount (Not t ∷ gs) = toffoliCount gs
 toffoliCount (Cnot a t ∷ gs) = toffoliCount gs
 toffoliCount (Toffoli a b t ∷ gs) = 1 + toffoliCount gs
 
--- the gate's lines are below L and all different
+-- the gate's lines are below L and all different (01)
+unfoldable pub linesFit : ℕ → Gate → Bool
+linesFit L (Not t) = ltb t L
+linesFit L (Cnot a t) = (ltb a L && ltb t L) && not (eqb a t)
+linesFit L (Toffoli a b t) = ((ltb a L && ltb b L) && ltb t L) && (not (eqb a b) && (not (eqb a t) && not (eqb b t)))
+
+-- the first control of a Toffoli is lower than the second (02)
+unfoldable pub lowerFirst : Gate → Bool
+lowerFirst (Not t) = true
+lowerFirst (Cnot a t) = true
+lowerFirst (Toffoli a b t) = ltb a b
+
+-- the gate's lines are below L and all different, a Toffoli's lower control first
 unfoldable pub wellFormed : ℕ → Gate → Bool
-wellFormed L (Not t) = ltb t L
-wellFormed L (Cnot a t) = (ltb a L && ltb t L) && not (eqb a t)
-wellFormed L (Toffoli a b t) = ((ltb a L && ltb b L) && ltb t L) && (not (eqb a b) && (not (eqb a t) && not (eqb b t)))
+wellFormed L g = lowerFirst g && linesFit L g
 
 -- a gate that is well formed on L lines
 abbrev pub WellFormed : ℕ → Gate → Type 0
 WellFormed L g = wellFormed L g ≡ true
+
+-- a gate on different lines below L, its controls in any order
+abbrev pub LinesFit : ℕ → Gate → Type 0
+LinesFit L g = linesFit L g ≡ true
 
 -- P holds of each gate
 abbrev pub All : (Gate → Type 0) → List Gate → Type 0

@@ -1,3 +1,4 @@
+pub mod ControlOrder
 pub mod Gates
 pub mod Running
 pub mod Theorems

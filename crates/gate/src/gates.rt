@@ -34,7 +34,8 @@ pub fn target_of(gate: Gate) -> u16
     }
 }
 
-// Whether the gate's lines are below the number of lines and all different.
+// Whether the gate's lines are below the number of lines and all different, a Toffoli's lower
+// control first.
 pub fn well_formed(gate: Gate, lines: usize) -> bool
     ensures { λ r. ⌜ r ≡ wellFormed lines gate ⌝ }
 {
@@ -49,10 +50,10 @@ pub fn well_formed(gate: Gate, lines: usize) -> bool
             second,
             target,
         } => {
-            let controls = both((first as usize) < lines, (second as usize) < lines);
-            let below = both(controls, (target as usize) < lines);
+            // The first control is below the second, and with it below the number of lines.
+            let below = both((second as usize) < lines, (target as usize) < lines);
             let apart = both(first != target, second != target);
-            both(below, both(first != second, apart))
+            both(below, both(first < second, apart))
         }
     }
 }

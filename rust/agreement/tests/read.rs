@@ -1,6 +1,6 @@
 //! read_program and read_circuit: the archive beside the model.
 
-use agreement::circuit::{self, Circuit, Gate};
+use agreement::circuit::{self, every_toffoli, toffoli, Circuit, Gate};
 use agreement::compare::read::{head_of, Reader, CIRCUIT, PROGRAM};
 use agreement::damage::each_byte_changed;
 use agreement::random::Random;
@@ -25,6 +25,80 @@ fn shaped_programs() {
 #[test]
 fn shaped_circuits() {
     gives_what_is_written(&CIRCUIT, shaped::circuit::all());
+}
+
+/// On 1 to 5 lines so many gates are in order: NOTs, CNOTs, and Toffolis with the lower control
+/// first.
+#[test]
+fn every_gate_of_few_lines() {
+    for (lines, count) in (1..).zip([1, 2 + 2, 3 + 6 + 3, 4 + 12 + 12, 5 + 20 + 30]) {
+        let files = shaped::circuit::every_gate(lines);
+        let read = files.iter().filter(|shaped| CIRCUIT.archive(&shaped.file).is_ok());
+        assert_eq!(read.count(), count, "{lines} lines");
+        gives_what_is_written(&CIRCUIT, files);
+    }
+}
+
+/// What running and undoing refuse for the file's sake, reading refuses alike.
+#[test]
+fn files_of_bad_calls() {
+    for bad in shaped::bad_calls::all() {
+        let refusal = Some(bad.refusal).filter(|(number, _)| *number != 13);
+        assert_eq!(CIRCUIT.compare(&bad.file).err(), refusal, "{}", bad.name);
+    }
+}
+
+/// On 3 to 7 lines, each Toffoli on three different lines is accepted in one of its two writings,
+/// the one with the lower control first.
+#[test]
+fn of_two_writings_of_a_toffoli_one_is_read() {
+    for lines in 3..=7 {
+        let alone = |gate: Gate| Circuit::new(0, lines, 0, &[gate]).bytes();
+        let read = |gate: Gate| CIRCUIT.archive(&alone(gate)).map(|head| head.count);
+        let toffolis = every_toffoli(lines);
+        assert_eq!(toffolis.len(), usize::from(lines * (lines - 1) * (lines - 2) / 2));
+        for gate in toffolis {
+            assert_eq!(read(gate), Ok(1), "{gate:?} of {lines} lines");
+            assert_eq!(read(gate.exchanged()), Err((12, 0)), "{gate:?} of {lines}, exchanged");
+        }
+    }
+}
+
+/// Any two of 1,152 lines, and the one after them, as controls: nothing is left to chance here.
+#[test]
+fn each_pair_of_controls() {
+    let lines = 0..=1152;
+    let mut file = Circuit::new(64, 64, 1024, &[toffoli(0, 0, 0)]).bytes();
+    let mut accepted = 0;
+    for (a, b) in lines.clone().flat_map(|a| lines.clone().map(move |b| (a, b))) {
+        let target = (0..3).find(|target| ![a, b].contains(target)).expect("one of three");
+        file[30..].copy_from_slice(&[a, b, target].map(u16::to_le_bytes).concat());
+        let read = oracle::read_circuit(&file).map(|head| head.gates);
+        let good = a < b && b < 1152;
+        let expected = if good { Ok(1) } else { Err(oracle::Refusal { number: 12, place: 0 }) };
+        assert_eq!(read, expected, "controls {a} and {b}");
+        accepted += u32::from(good);
+    }
+    assert_eq!(accepted, 1152 * 1151 / 2);
+}
+
+/// Of all the writings of a circuit, which differ in the order of controls, one is accepted, and the
+/// others are refused at their first Toffoli that is not as in it.
+#[test]
+fn of_all_writings_of_a_circuit_one_is_read() {
+    let mut random = Random::new(0x6f6e_6521);
+    let mut refused = 0;
+    for _ in 0..1_000 {
+        let gates: Vec<Gate> = (0..8).map(|_| circuit::valid_gate(&mut random, 6)).collect();
+        for (exchanged, writing) in Circuit::new(2, 2, 2, &gates).writings() {
+            let read = CIRCUIT.compare(&writing.bytes()).map(|head| head.count);
+            let expected = exchanged.first().map_or(Ok(8), |first| Err((12, *first as u64)));
+            assert_eq!(read, expected, "{exchanged:?} exchanged, {}", hex(&writing.bytes()));
+            refused += u32::from(read.is_err());
+        }
+    }
+    println!("read_circuit: {refused} writings refused");
+    assert!(refused > 4_000, "too few circuits with several Toffolis");
 }
 
 /// Every one-byte change and every truncation of a small file: nothing is left to chance here.

@@ -1,12 +1,14 @@
 //! run_forwards and run_backwards: the archive beside the model, the lines before and after
 //! included.
 
-use agreement::circuit::{self, cnot, gate, not, toffoli, Circuit, Gate};
+use agreement::circuit::{self, cnot, every_toffoli, gate, not, sorted_toffoli, Circuit, Gate};
 use agreement::compare::run::Direction::{self, Backwards, Forwards};
 use agreement::compare::run::{archive, compare, drawn, model};
 use agreement::random::Random;
 use agreement::tally::Tally;
-use agreement::{damage, hex, shaped};
+use agreement::{bits, damage, hex, shaped};
+use model::circuit::Gate::Toffoli;
+use model::run::step;
 
 /// A shaped run, with the lines given and those expected.
 fn gives(name: &str, direction: Direction, circuit: &Circuit, lines: &[u8], after: &[u8]) {
@@ -79,7 +81,7 @@ fn the_other_examples() {
 
 /// The gates of every kind on three lines, with their controls and their target.
 fn on_lines(a: u16, b: u16, c: u16) -> [(Gate, Vec<u16>, u16); 3] {
-    [(not(a), vec![], a), (cnot(a, b), vec![a], b), (toffoli(a, b, c), vec![a, b], c)]
+    [(not(a), vec![], a), (cnot(a, b), vec![a], b), (sorted_toffoli(a, b, c), vec![a, b], c)]
 }
 
 /// Each kind alone, with the first, a middle and the last line in each place and at each value,
@@ -106,6 +108,47 @@ fn every_kind_in_every_place() {
                     gives(&name, Forwards, &circuit, &lines, &after);
                     gives(&name, Backwards, &circuit, &lines, &after);
                 }
+            }
+        }
+    }
+}
+
+/// Every gate in order, from every start, and every gate that is not. For these, bytes that are no
+/// bits or too few do not matter, and the good gate before has not run.
+#[test]
+fn every_gate_of_few_lines() {
+    for count in 2..=5 {
+        let files = || shaped::circuit::every_gate(count as u16);
+        shaped::each_accepted(files(), |name, file, _| {
+            for start in (0..1 << count).map(|state| bits(state, count)) {
+                for direction in [Forwards, Backwards] {
+                    assert_eq!(compare(direction, file, &start).0, Ok(()), "{name}");
+                }
+            }
+        });
+        shaped::each_refused("run, every gate", files(), |name, file, refusal| {
+            for lines in [vec![0; count], vec![1; count], vec![2; count], vec![1; count - 1]] {
+                refuses(name, file, &lines, refusal);
+            }
+        });
+    }
+}
+
+/// A Toffoli with its controls exchanged is refused, and would do what it does without: on 3 to 5
+/// lines, from every start.
+#[test]
+fn exchanged_controls_would_do_the_same() {
+    for count in 3..=5 {
+        for gate in every_toffoli(count as u16) {
+            let of = |gate: Gate| Circuit::new(0, count as u16, 0, &[gate]);
+            let [a, b, target] = [gate.control, gate.second, gate.target].map(usize::from);
+            let name = format!("{gate:?} of {count} lines");
+            for start in (0..1 << count).map(|state| bits(state, count)) {
+                refuses(&name, &of(gate.exchanged()).bytes(), &start, (12, 0));
+                let mut after = start.clone();
+                step(Toffoli(b, a, target), &mut after);
+                gives(&name, Forwards, &of(gate), &start, &after);
+                gives(&name, Backwards, &of(gate), &start, &after);
             }
         }
     }

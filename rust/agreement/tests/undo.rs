@@ -6,7 +6,7 @@ use agreement::compare::undo::{archive, compare, drawn, model, written as undone
 use agreement::compare::NO_GATES;
 use agreement::random::Random;
 use agreement::tally::Tally;
-use agreement::{damage, hex, shaped, Outcome};
+use agreement::{bits, damage, hex, shaped, Outcome};
 
 /// A shaped case on both sides, with the area expected.
 fn check(name: &str, case: &Case, expected: Outcome<usize>, area: &[u8]) {
@@ -81,7 +81,7 @@ fn a_share_is_cleaned_by_undoing() {
 
 #[test]
 fn gates_are_left_out_by_their_target_alone() {
-    let gates = [not(0), cnot(0, 1), toffoli(0, 1, 2), cnot(2, 0), not(3), toffoli(3, 2, 1)];
+    let gates = [not(0), cnot(0, 1), toffoli(0, 1, 2), cnot(2, 0), not(3), toffoli(2, 3, 1)];
     let circuit = Circuit::new(1, 2, 1, &gates);
     let [a, b, c, d, e, f] = gates;
     leaves("none chosen", &circuit, &[], &[f, e, d, c, b, a]);
@@ -116,6 +116,26 @@ fn every_kind_in_every_place() {
             assert_eq!(gates.len(), 12, "each line is the target of a third of the gates");
             leaves(&format!("line {chosen} chosen"), &circuit, &[chosen], &gates);
         }
+    }
+}
+
+/// Every gate in order, and every gate that is not. For these, choices that are no bits or too few
+/// do not matter, nor that the gate would be left out.
+#[test]
+fn every_gate_of_few_lines() {
+    for count in 2..=5 {
+        let files = || shaped::circuit::every_gate(count as u16);
+        shaped::each_accepted(files(), |name, file, _| {
+            for choices in (0..1 << count).map(|choice| bits(choice, count)) {
+                let case = Case { file: file.to_vec(), choices, area: vec![9; file.len()] };
+                assert!(compare(&case).is_ok(), "{name}");
+            }
+        });
+        shaped::each_refused("undo, every gate", files(), |name, file, refusal| {
+            for choices in [vec![0; count], vec![1; count], vec![2; count], vec![1; count - 1]] {
+                refuses(name, file, &choices, refusal);
+            }
+        });
     }
 }
 

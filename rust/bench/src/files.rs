@@ -1,7 +1,7 @@
 //! Files for the services, drawn at random: those of one function are alike in size and differ in
 //! every node or gate, so that the processor cannot learn the branches of one by heart.
 
-use agreement::circuit::{cnot, not, toffoli, Circuit};
+use agreement::circuit::{cnot, not, sorted_toffoli, Circuit};
 use agreement::compare::compile::needs;
 use agreement::compare::{MOST_NODES, NO_GATES};
 use agreement::program::{self, and, input, xor, Node, Program};
@@ -70,7 +70,7 @@ pub fn circuit(random: &mut Random, gates: usize) -> Vec<u8> {
     while circuit.gates.len() < gates {
         let [a, b, t] = [(); 3].map(|()| random.below(LINES) as u16);
         if a != b && a != t && b != t {
-            circuit.gates.push(random.pick(&[not(t), cnot(a, t), toffoli(a, b, t)]));
+            circuit.gates.push(random.pick(&[not(t), cnot(a, t), sorted_toffoli(a, b, t)]));
         }
     }
     assert_eq!(circuit.lines(), LINES);

@@ -14,7 +14,7 @@ pub enum Gate {
     Not(usize),
     /// XORs the control into the target.
     Cnot(usize, usize),
-    /// XORs the AND of the two controls into the target.
+    /// XORs the AND of the two controls into the target. A file has the lower control first.
     Toffoli(usize, usize, usize),
 }
 
@@ -100,7 +100,8 @@ pub fn read(file: &[u8]) -> Result<Circuit, Refusal> {
     Ok(Circuit { inputs: n, outputs: m, work: w, gates })
 }
 
-/// The gate of a circuit with so many lines, unless its record is bad.
+/// The gate of a circuit with so many lines, unless its record is bad: its lines are below that
+/// number and all different, and of two controls the lower one is first.
 fn gate(record: &[u8], lines: usize) -> Option<Gate> {
     let kind = record[0];
     let zero = record[1];
@@ -111,7 +112,7 @@ fn gate(record: &[u8], lines: usize) -> Option<Gate> {
     match (kind, zero, a, b) {
         (1, 0, 0, 0) if in_range => Some(Gate::Not(t)),
         (2, 0, a, 0) if in_range && a != t => Some(Gate::Cnot(a, t)),
-        (3, 0, a, b) if in_range && a != b && a != t && b != t => Some(Gate::Toffoli(a, b, t)),
+        (3, 0, a, b) if in_range && a < b && a != t && b != t => Some(Gate::Toffoli(a, b, t)),
         _ => None,
     }
 }
@@ -200,9 +201,9 @@ mod tests {
         assert_eq!(gate(&[1, 0, 0, 0, 0, 0, 2, 0], 3), Some(Gate::Not(2)));
         assert_eq!(gate(&[1, 0, 0, 0, 0, 0, 0, 0], 1), Some(Gate::Not(0)));
         assert_eq!(gate(&[2, 0, 2, 0, 0, 0, 0, 0], 3), Some(Gate::Cnot(2, 0)));
-        assert_eq!(gate(&[3, 0, 2, 0, 0, 0, 1, 0], 3), Some(Gate::Toffoli(2, 0, 1)));
-        assert_eq!(gate(&[0, 0, 2, 0, 0, 0, 1, 0], 3), None);
-        assert_eq!(gate(&[4, 0, 2, 0, 0, 0, 1, 0], 3), None);
+        assert_eq!(gate(&[3, 0, 0, 0, 2, 0, 1, 0], 3), Some(Gate::Toffoli(0, 2, 1)));
+        assert_eq!(gate(&[0, 0, 0, 0, 2, 0, 1, 0], 3), None);
+        assert_eq!(gate(&[4, 0, 0, 0, 2, 0, 1, 0], 3), None);
     }
 
     #[test]
@@ -261,15 +262,60 @@ mod tests {
         assert_eq!(with(&[(28, 0)]), refused(12, 0));
         assert_eq!(with(&[(37, 1)]), refused(12, 1));
         assert_eq!(with(&[(40, 1)]), refused(12, 1));
-        // Lines that are too high.
-        assert_eq!(with(&[(46, 5)]), refused(12, 2));
+        // Lines that are too high: both controls, the second one, the target.
+        assert_eq!(with(&[(46, 5), (48, 6)]), refused(12, 2));
         assert_eq!(with(&[(48, 5)]), refused(12, 2));
         assert_eq!(with(&[(50, 5)]), refused(12, 2));
         // Equal lines.
         assert_eq!(with(&[(46, 4)]), refused(12, 2));
         assert_eq!(with(&[(46, 2)]), refused(12, 2));
-        assert_eq!(with(&[(48, 2)]), refused(12, 2));
+        assert_eq!(with(&[(46, 1), (48, 2)]), refused(12, 2));
         assert_eq!(with(&[(58, 1)]), refused(12, 3));
         assert_eq!(with(&[(60, 9), (54, 4)]), refused(12, 3));
+    }
+
+    fn toffoli(a: u16, b: u16, t: u16) -> Option<Gate> {
+        gate(&[[3, 0], a.to_le_bytes(), b.to_le_bytes(), t.to_le_bytes()].concat(), 1152)
+    }
+
+    #[test]
+    fn the_lower_control_is_first() {
+        // The target is above the controls, between them and below.
+        let next = [(0, 1, 2), (0, 2, 1), (1, 2, 0), (1149, 1150, 1151), (1150, 1151, 1149)];
+        // The low bytes fall, are equal, or rise with the high bytes equal.
+        let bytes = [(255, 256, 0), (511, 512, 1151), (1, 256, 2), (256, 512, 511), (383, 384, 0)];
+        for (a, b, t) in next.into_iter().chain(bytes) {
+            let read = Gate::Toffoli(a.into(), b.into(), t.into());
+            assert_eq!(toffoli(a, b, t), Some(read));
+            assert_eq!(toffoli(b, a, t), None, "{b} {a} {t}");
+            assert_eq!(toffoli(a, a, t), None, "{a} {a} {t}");
+            assert_eq!(toffoli(b, b, t), None, "{b} {b} {t}");
+        }
+        // A CNOT has one control, above its target or below.
+        assert_eq!(gate(&[2, 0, 0, 0, 0, 0, 2, 0], 3), Some(Gate::Cnot(0, 2)));
+        assert_eq!(gate(&[2, 0, 2, 0, 0, 0, 0, 0], 3), Some(Gate::Cnot(2, 0)));
+    }
+
+    #[test]
+    fn the_lowest_gate_with_its_higher_control_first_is_cause_12() {
+        let with_others = |others: &[(usize, u8)]| with(&[&[(46, 4), (48, 3)], others].concat());
+        assert_eq!(with_others(&[]), refused(12, 2));
+        // Another reason at an earlier gate, the same and a later one.
+        assert_eq!(with_others(&[(28, 0)]), refused(12, 0));
+        assert_eq!(with_others(&[(37, 1)]), refused(12, 1));
+        assert_eq!(with_others(&[(42, 5)]), refused(12, 1));
+        assert_eq!(with_others(&[(45, 1)]), refused(12, 2));
+        assert_eq!(with_others(&[(50, 3)]), refused(12, 2));
+        assert_eq!(with_others(&[(52, 0)]), refused(12, 2));
+        assert_eq!(with_others(&[(66, 5)]), refused(12, 2));
+
+        let (rising, falling) = (Gate::Toffoli(0, 1, 2), Gate::Toffoli(1, 0, 2));
+        let of = |gates: [Gate; 3]| read(&write(&Circuit { gates: gates.to_vec(), ..and() }));
+        assert!(of([rising; 3]).is_ok());
+        assert_eq!(of([falling, rising, rising]), refused(12, 0));
+        assert_eq!(of([rising, falling, rising]), refused(12, 1));
+        assert_eq!(of([rising, rising, falling]), refused(12, 2));
+        assert_eq!(of([rising, falling, falling]), refused(12, 1));
+        assert_eq!(of([falling; 3]), refused(12, 0));
     }
 }

@@ -50,9 +50,9 @@ mod tests {
 
     #[test]
     fn each_letter() {
-        let gates = vec![Gate::Not(10), Gate::Cnot(0, 255), Gate::Toffoli(1_151, 256, 64)];
+        let gates = vec![Gate::Not(10), Gate::Cnot(0, 255), Gate::Toffoli(256, 1_151, 64)];
         let circuit = Circuit { inputs: 64, outputs: 64, work: 1_024, gates };
-        let lines = "lines 64 64 1024 gates 3\nN 10\nC 0 255\nT 1151 256 64\n";
+        let lines = "lines 64 64 1024 gates 3\nN 10\nC 0 255\nT 256 1151 64\n";
         assert_eq!(text(&circuit), lines);
         assert_eq!(text(&Circuit { gates: vec![], ..circuit }), "lines 64 64 1024 gates 0\n");
     }

@@ -31,7 +31,8 @@ fn circuit_for(file: &[u8], lines: &[u8]) -> Result<Circuit, Refusal> {
     Ok(circuit)
 }
 
-fn step(gate: Gate, lines: &mut [u8]) {
+/// Runs one gate on the lines, the controls of a Toffoli in any order.
+pub fn step(gate: Gate, lines: &mut [u8]) {
     match gate {
         Gate::Not(target) => lines[target] ^= 1,
         Gate::Cnot(control, target) => lines[target] ^= lines[control],
@@ -69,6 +70,18 @@ mod tests {
     }
 
     #[test]
+    fn the_order_of_controls_does_not_matter() {
+        for bits in 0..8 {
+            let start = [bits & 1, bits >> 1 & 1, bits >> 2];
+            for gate in [Gate::Toffoli(0, 2, 1), Gate::Toffoli(2, 0, 1)] {
+                let mut lines = start;
+                step(gate, &mut lines);
+                assert_eq!(lines, [start[0], start[1] ^ start[0] & start[2], start[2]]);
+            }
+        }
+    }
+
+    #[test]
     fn the_first_cause_counts_and_the_lines_stay() {
         let refused = |file: &[u8], lines: &[u8]| {
             let mut after = lines.to_vec();
@@ -85,5 +98,7 @@ mod tests {
         let mut bad_gate = FILE;
         bad_gate[52] = 0;
         assert_eq!(refused(&bad_gate, &[0, 0, 2]), (12, 3));
+        bad_gate[46..50].copy_from_slice(&[1, 0, 0, 0]);
+        assert_eq!(refused(&bad_gate, &[0, 0, 2]), (12, 2));
     }
 }

@@ -69,6 +69,9 @@ mod tests {
         let mut bad_gate = all();
         bad_gate[44] = 4;
         assert_eq!(refused(&bad_gate, &[2], 7, 9), (12, 2));
+        let exchanged = circuit::write(&circuit(&[Gate::Not(0), Gate::Toffoli(1, 0, 2)]));
+        assert_eq!(refused(&exchanged, &[2], 7, 9), (12, 1));
+        assert_eq!(refused(&exchanged, &[0, 0, 1], 99, 9), (12, 1));
         assert_eq!(refused(&all(), &[0, 0, 2], 7, 9), (13, 0));
         assert_eq!(refused(&all(), &[0, 0], 7, 9), (13, 0));
         assert_eq!(refused(&all(), &[0, 1, 0], 51, 0), (11, 3));

@@ -166,6 +166,9 @@ pub fn quotes(answers: &[u64]) -> impl Iterator<Item = Quote> + '_ {
 
 /// Reads and checks a circuit file and gives its numbers.
 ///
+/// A Toffoli's first control has to be lower than its second: this and the three functions below
+/// refuse a gate that breaks this with 12. Exchanging the two changes nothing that the gate does.
+///
 /// `file` is only read. Refusals: 1 to 4 and 12.
 pub fn read_circuit(file: &[u8]) -> Result<CircuitHead, Refusal> {
     let head = archive::read_circuit(file);

@@ -1,6 +1,6 @@
 //! Calls with a circuit file and line or choice bytes that running and undoing refuse.
 
-use super::circuit::{nots, whole_case, BAD, WHOLE_CASE};
+use super::circuit::{and_of_four_built, nots, whole_case, BAD, WHOLE_CASE};
 use crate::circuit::{cnot, Circuit};
 
 /// A call that is refused.
@@ -15,9 +15,15 @@ pub struct BadCall {
     pub refusal: (u64, u64),
 }
 
-/// Good files with bytes of every kind that is refused with 13, and bad files with such bytes.
+/// Good files with bytes of every kind that is refused with 13, and bad files with such bytes, those
+/// with controls in the wrong order also with good ones.
 pub fn all() -> Vec<BadCall> {
-    let groups = [too_few_or_too_many_bits(), bytes_that_are_no_bits(), causes_together_with_13()];
+    let groups = [
+        too_few_or_too_many_bits(),
+        bytes_that_are_no_bits(),
+        causes_together_with_13(),
+        controls_exchanged(),
+    ];
     groups.into_iter().flatten().collect()
 }
 
@@ -83,4 +89,26 @@ fn causes_together_with_13() -> Vec<BadCall> {
         .iter()
         .flat_map(|(file, refusal)| all_bits.map(|bits| bad(file, *refusal, bits)))
         .collect()
+}
+
+/// Circuits with the controls of some of their Toffolis exchanged, refused at the first of these:
+/// with good bytes, with a byte too few or too many, with one that is no bit, and with none.
+fn controls_exchanged() -> Vec<BadCall> {
+    let mut calls = Vec::new();
+    for circuit in [whole_case(), and_of_four_built()] {
+        let lines = circuit.lines();
+        let in_turn = |count: usize| (0..count).map(|line| line as u8 & 1).collect::<Vec<u8>>();
+        let no_bit = [in_turn(lines - 1), vec![2]].concat();
+        let good = [vec![0; lines], vec![1; lines], in_turn(lines)];
+        let bad = [in_turn(lines - 1), in_turn(lines + 1), no_bit, vec![]];
+        for (exchanged, writing) in &circuit.writings()[1..] {
+            calls.extend(good.iter().chain(&bad).map(|bits| BadCall {
+                name: format!("controls of {exchanged:?} exchanged with {bits:?}"),
+                file: writing.bytes(),
+                bits: bits.clone(),
+                refusal: (12, exchanged[0] as u64),
+            }));
+        }
+    }
+    calls
 }

@@ -2,7 +2,7 @@
 
 use super::contents::{self, Format};
 use super::{accepted, program, refused, Shaped};
-use crate::circuit::{cnot, gate, not, toffoli, Circuit, Gate};
+use crate::circuit::{cnot, gate, not, sorted_toffoli, toffoli, Circuit, Gate};
 
 /// The circuit of 01's whole case: n = 2, m = 1, w = 2.
 pub const WHOLE_CASE: [u8; 68] = [
@@ -15,6 +15,27 @@ pub const WHOLE_CASE: [u8; 68] = [
 
 /// A gate that no check of gates accepts.
 pub(super) const BAD: Gate = gate(4, 0, 0, 0);
+
+/// Two of 1,152 lines, the lower first: neighbours, and such that low bytes fall, are equal or
+/// have their high bit set, or bytes read in the other order fall.
+const PAIRS: [(u16, u16); 16] = [
+    (0, 1),
+    (1, 2),
+    (127, 128),
+    (254, 255),
+    (0x00ff, 0x0100),
+    (0x0100, 0x0101),
+    (0x017f, 0x0180),
+    (0x01ff, 0x0200),
+    (0x03ff, 0x0400),
+    (1150, 1151),
+    (0, 1151),
+    (1, 256),
+    (0x0100, 0x0200),
+    (0x00ff, 0x0101),
+    (0x00ff, 0x047f),
+    (0x0102, 0x0201),
+];
 
 /// What circuit files share with program files.
 const FORMAT: Format = Format {
@@ -43,6 +64,9 @@ pub fn all() -> Vec<Shaped> {
         line_limits(),
         line_counts(),
         equal_lines(),
+        control_orders(),
+        writings(),
+        falling_among_bad_gates(),
         lowest_bad_gates(),
         causes_together(),
     ];
@@ -92,14 +116,14 @@ pub fn chain(inputs: u16, outputs: u16, work: u16) -> Circuit {
     circuit
 }
 
-/// Every kind with the first, a middle and the last line in each of its places.
+/// Every kind with the first, a middle and the last line in each place that it may have.
 pub fn every_place(inputs: u16, outputs: u16, work: u16) -> Circuit {
     let mut circuit = Circuit::new(inputs, outputs, work, &[]);
     let last = circuit.lines() as u16 - 1;
     let places = [0, last / 2, last];
     for (a, b, c) in [(0, 1, 2), (0, 2, 1), (1, 0, 2), (1, 2, 0), (2, 0, 1), (2, 1, 0)] {
         let (a, b, c) = (places[a], places[b], places[c]);
-        circuit.gates.extend([toffoli(a, b, c), cnot(a, b), not(a)]);
+        circuit.gates.extend([sorted_toffoli(a, b, c), cnot(a, b), not(a)]);
     }
     circuit
 }
@@ -112,7 +136,7 @@ pub fn nots(count: usize) -> Circuit {
 fn accepted_circuits() -> Vec<Shaped> {
     let itself = Circuit::new(1, 1, 0, &[cnot(0, 1), cnot(0, 1)]);
     // What the compiler never writes: inputs as targets, outputs as controls.
-    let free = Circuit::new(2, 1, 1, &[cnot(2, 0), toffoli(3, 2, 1), not(1), cnot(0, 3)]);
+    let free = Circuit::new(2, 1, 1, &[cnot(2, 0), toffoli(2, 3, 1), not(1), cnot(0, 3)]);
     vec![
         accepted("NOR", nor().bytes(), [2, 1, 2, 9]),
         accepted("AND of three inputs", and_of_three().bytes(), [3, 1, 4, 9]),
@@ -182,7 +206,7 @@ fn work_lines() -> Vec<Shaped> {
 
 /// Four gates on five lines, the third as given.
 fn at_2(third: Gate) -> Vec<u8> {
-    Circuit::new(2, 1, 2, &[not(4), cnot(4, 0), third, toffoli(4, 3, 2)]).bytes()
+    Circuit::new(2, 1, 2, &[not(4), cnot(4, 0), third, toffoli(3, 4, 2)]).bytes()
 }
 
 fn kinds() -> Vec<Shaped> {
@@ -236,11 +260,10 @@ fn unused_controls() -> Vec<Shaped> {
 
 fn line_limits() -> Vec<Shaped> {
     type Place = fn(u16) -> Gate;
-    let places: [(&str, Place); 6] = [
+    let places: [(&str, Place); 5] = [
         ("NOT, target", not),
         ("CNOT, control", |line| cnot(line, 0)),
         ("CNOT, target", |line| cnot(0, line)),
-        ("Toffoli, control", |line| toffoli(line, 0, 1)),
         ("Toffoli, second control", |line| toffoli(0, line, 1)),
         ("Toffoli, target", |line| toffoli(0, 1, line)),
     ];
@@ -250,6 +273,18 @@ fn line_limits() -> Vec<Shaped> {
         for line in [5, 6, 256, 258, 32770, 65535] {
             files.push(refused(format!("{name} {line} of 5 lines"), at_2(place(line)), 12, 2));
         }
+    }
+    // A first control that is too high has a second one that is too, or that is lower.
+    files.push(accepted(
+        "Toffoli, controls 3 and 4 of 5 lines",
+        at_2(toffoli(3, 4, 1)),
+        [2, 1, 2, 4],
+    ));
+    for line in [4, 5, 255, 256, 258, 32770, 65534] {
+        let name = format!("Toffoli, controls {line} and {} of 5 lines", line + 1);
+        files.push(refused(name, at_2(toffoli(line, line + 1, 1)), 12, 2));
+        let name = format!("Toffoli, controls {} and 0 of 5 lines", line + 1);
+        files.push(refused(name, at_2(toffoli(line + 1, 0, 1)), 12, 2));
     }
     files
 }
@@ -277,16 +312,108 @@ fn equal_lines() -> Vec<Shaped> {
         refused("CNOT 4 4", at_2(cnot(4, 4)), 12, 2),
         refused("Toffoli, equal controls", at_2(toffoli(1, 1, 2)), 12, 2),
         refused("Toffoli, equal controls 0", at_2(toffoli(0, 0, 2)), 12, 2),
-        refused("Toffoli, control its target", at_2(toffoli(2, 1, 2)), 12, 2),
+        refused("Toffoli, control its target", at_2(toffoli(2, 3, 2)), 12, 2),
         refused("Toffoli, control its target 0", at_2(toffoli(0, 1, 0)), 12, 2),
         refused("Toffoli, second control its target", at_2(toffoli(1, 2, 2)), 12, 2),
-        refused("Toffoli, second control its target 0", at_2(toffoli(1, 0, 0)), 12, 2),
+        refused("Toffoli, second control its target 4", at_2(toffoli(0, 4, 4)), 12, 2),
+        refused("Toffoli, falling to its target 0", at_2(toffoli(1, 0, 0)), 12, 2),
+        refused("Toffoli, falling from its target 2", at_2(toffoli(2, 1, 2)), 12, 2),
         refused("Toffoli, all equal", at_2(toffoli(3, 3, 3)), 12, 2),
         refused("Toffoli, equal and too high", at_2(toffoli(5, 5, 2)), 12, 2),
-        accepted("Toffoli, controls falling", at_2(toffoli(4, 3, 0)), [2, 1, 2, 4]),
-        accepted("Toffoli, controls rising", at_2(toffoli(3, 4, 0)), [2, 1, 2, 4]),
         accepted("two equal gates", at_2(cnot(4, 0)), [2, 1, 2, 4]),
     ]
+}
+
+/// The lower control first, which is right, and second.
+fn in_both_orders((n, m, w): (u16, u16, u16), a: u16, b: u16, target: u16) -> [Shaped; 2] {
+    let name = |a: u16, b: u16| format!("Toffoli {a} {b} {target} of {} lines", n + m + w);
+    let file = |a: u16, b: u16| Circuit::new(n, m, w, &[not(0), toffoli(a, b, target)]).bytes();
+    let numbers = [n, m, w, 2].map(usize::from);
+    [accepted(name(a, b), file(a, b), numbers), refused(name(b, a), file(b, a), 12, 1)]
+}
+
+/// The target of a Toffoli is above its controls, between them and below, as far as it can. A CNOT
+/// may have its one control on either side.
+fn control_orders() -> Vec<Shaped> {
+    let mut files = Vec::new();
+    for (n, m, w) in [(1, 1, 1), (2, 1, 2), (0, 1, 256), (64, 64, 1024)] {
+        let last = n + m + w - 1;
+        let middle = last / 2;
+        for (a, b, target) in [(0, middle, last), (0, last, middle), (middle, last, 0)] {
+            files.extend(in_both_orders((n, m, w), a, b, target));
+        }
+    }
+    for (a, b) in PAIRS {
+        for target in [0, a + 1, 1151] {
+            if target != a && target != b {
+                files.extend(in_both_orders((64, 64, 1024), a, b, target));
+            }
+        }
+    }
+    let cnots = |gates: [Gate; 16]| Circuit::new(64, 64, 1024, &gates).bytes();
+    let numbers = [64, 64, 1024, 16];
+    files.push(accepted("CNOTs to higher lines", cnots(PAIRS.map(|(a, b)| cnot(a, b))), numbers));
+    files.push(accepted("CNOTs to lower lines", cnots(PAIRS.map(|(a, b)| cnot(b, a))), numbers));
+    files
+}
+
+/// Circuits with several Toffolis, in all of their writings: those of one vendor have the lower
+/// control first, those of the other the higher one, and some have both.
+fn writings() -> Vec<Shaped> {
+    let toffolis = [toffoli(0, 1, 2), toffoli(0, 2, 1), toffoli(1, 2, 0)];
+    let circuits = [
+        ("AND of three inputs", and_of_three()),
+        ("AND of four inputs, built", and_of_four_built()),
+        ("three Toffolis", Circuit::new(1, 1, 1, &toffolis)),
+    ];
+    let mut files = vec![accepted("three Toffolis", circuits[2].1.bytes(), [1, 1, 1, 3])];
+    for (name, circuit) in circuits {
+        for (exchanged, writing) in &circuit.writings()[1..] {
+            let name = format!("{name}, controls of {exchanged:?} exchanged");
+            files.push(refused(name, writing.bytes(), 12, exchanged[0] as u64));
+        }
+    }
+    files
+}
+
+/// A Toffoli with its higher control first before, at and behind a gate with any other fault, and
+/// as one of 8,000.
+fn falling_among_bad_gates() -> Vec<Shaped> {
+    let falling = toffoli(4, 3, 2);
+    let faults = [
+        ("a kind", BAD),
+        ("a zero byte", not(0).with_zero_byte(1)),
+        ("an unused control", gate(2, 0, 3, 1)),
+        ("a line", not(5)),
+        ("equal lines", cnot(1, 1)),
+    ];
+    let circuit = |gates: &[Gate]| Circuit::new(2, 1, 2, gates).bytes();
+    let mut files = Vec::new();
+    for (fault, bad) in faults {
+        let before = circuit(&[not(0), bad, falling]);
+        files.push(refused(format!("{fault} at 1, then controls falling at 2"), before, 12, 1));
+        let behind = circuit(&[not(0), falling, bad]);
+        files.push(refused(format!("controls falling at 1, then {fault} at 2"), behind, 12, 1));
+    }
+    let at_once = [
+        ("a kind", gate(4, 4, 3, 2)),
+        ("a zero byte", falling.with_zero_byte(1)),
+        ("a line", toffoli(4, 3, 5)),
+        ("equal lines", toffoli(4, 3, 3)),
+    ];
+    for (fault, bad) in at_once {
+        let file = circuit(&[not(0), bad]);
+        files.push(refused(format!("controls falling and {fault} at 1"), file, 12, 1));
+    }
+
+    let of_8000 = || Circuit::new(0, 3, 0, &[toffoli(0, 1, 2); 8000]);
+    files.push(accepted("8000 Toffolis", of_8000().bytes(), [0, 3, 0, 8000]));
+    for exchanged in [&[0][..], &[255], &[256], &[7999], &[4096, 7999]] {
+        let file = of_8000().with_exchanged(exchanged).bytes();
+        let name = format!("8000 Toffolis, controls of {exchanged:?} exchanged");
+        files.push(refused(name, file, 12, exchanged[0] as u64));
+    }
+    files
 }
 
 fn lowest_bad_gates() -> Vec<Shaped> {
@@ -338,7 +465,44 @@ fn causes_together() -> Vec<Shaped> {
         refused("3 and 4: 8001 gates, m 0", circuit(0, 0, 1, &[not(0); 8001]), 3, 0),
         refused("3 and 12: 8001 bad gates", circuit(0, 1, 0, &[BAD; 8001]), 3, 0),
         refused("4 and 12: m 0, a bad gate", circuit(2, 0, 2, &[BAD]), 4, 0),
+        refused("4 and 12: n 65, controls falling", circuit(65, 1, 0, &[toffoli(2, 1, 0)]), 4, 0),
         refused("4 and 12: w 1025, NOT 1026", circuit(0, 1, 1025, &[not(1026)]), 4, 0),
         refused("4, not 12: w 1025, NOT 1025", circuit(0, 1, 1025, &[not(1025)]), 4, 0),
     ]
+}
+
+/// Every gate of kinds 0 to 4 on so many lines and on the one after them, with each field of the
+/// gate any of these: behind a good gate, its zero byte zero or not.
+pub fn every_gate(lines: u16) -> Vec<Shaped> {
+    let work = lines / 2;
+    let inputs = lines - 1 - work;
+    let numbers = [inputs, 1, work, 2].map(usize::from);
+    let shaped = |gate: Gate| {
+        let name = format!("{gate:?} of {lines} lines");
+        let file = Circuit::new(inputs, 1, work, &[not(0), gate]).bytes();
+        if in_order(gate, lines) {
+            accepted(name, file, numbers)
+        } else {
+            refused(name, file, 12, 1)
+        }
+    };
+    let fields = || 0..=lines;
+    let controls = || fields().flat_map(move |a| fields().map(move |b| (a, b)));
+    let places = move || controls().flat_map(move |(a, b)| fields().map(move |t| (a, b, t)));
+    (0..=4)
+        .flat_map(|kind| places().map(move |(a, b, t)| gate(kind, a, b, t)))
+        .flat_map(|gate| [gate, gate.with_zero_byte(1)])
+        .map(shaped)
+        .collect()
+}
+
+/// Whether a file with so many lines may have this gate.
+fn in_order(gate: Gate, lines: u16) -> bool {
+    let Gate { kind, zero, control: a, second: b, target: t } = gate;
+    match (kind, zero) {
+        (1, 0) => a == 0 && b == 0 && t < lines,
+        (2, 0) => b == 0 && a < lines && t < lines && a != t,
+        (3, 0) => a < lines && b < lines && t < lines && a < b && t != a && t != b,
+        _ => false,
+    }
 }

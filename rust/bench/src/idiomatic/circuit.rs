@@ -103,11 +103,10 @@ fn fields(gate: &Gate) -> [usize; 4] {
 
 fn is_good(gate: &Gate, lines: usize) -> bool {
     let [kind, a, b, t] = fields(gate);
-    let in_range = a < lines && b < lines && t < lines;
     match kind {
-        1 => in_range && a == 0 && b == 0,
-        2 => in_range && b == 0 && a != t,
-        3 => in_range && a != b && a != t && b != t,
+        1 => t < lines && a == 0 && b == 0,
+        2 => a < lines && t < lines && b == 0 && a != t,
+        3 => a < b && b < lines && t < lines && a != t && b != t,
         _ => false,
     }
 }
