@@ -125,7 +125,7 @@ build-formed n (XOR a b) t f L p =
 build-formed n (AND a b) t f L p =
     let m : 1 + held a + (1 + most b) ≤ most (AND a b) = most-and-second a b in
     let lines : ToffoliLines L f (second f a) t =
-    record { first-below = omega arith; second-below = omega arith; target-below = omega arith; controls-apart = omega arith; first-apart = omega arith; second-apart = omega arith } in
+    record { first-below = omega arith; second-below = omega arith; target-below = omega arith; first-apart = omega arith; second-apart = omega arith } in
     all-append _ (buildFrom a f (f + 1)) _
     (build-formed n a f (f + 1) L (apart-and-first p))
     (all-append _ (buildFrom b (second f a) (second f a + 1)) _

@@ -16,7 +16,7 @@ use Rattle.gate.specs.ControlOrder.{exchangeControls, SameGate, SameGate
 use Rattle.gate.specs.Gates.{target, lowerFirst, WellFormed, LinesFit, All}
 use Rattle.gate.specs.Running.{addend, step, run}
 use Rattle.gate.specs.Theorems.{ExchangeSame, SameRuns}
-use Rattle.gate.proofs.WellFormedLaws.{ToffoliLines, toffoli-fits, toffoli-formed, toffoli-lower, lower-formed}
+use Rattle.gate.proofs.WellFormedLaws.{ToffoliLines, toffoli-fits, controls-apart, toffoli-formed, toffoli-lower, lower-formed}
 
 -- where the lower control is not first, exchanging them makes a gate on different lines well formed
 exchange-formed : (L : ℕ) (g : Gate) → LinesFit L g → lowerFirst g ≡ false → WellFormed L (exchangeControls g)
@@ -25,11 +25,10 @@ exchange-formed L (Not t) fits e = absurd (false≢true (sym e))
 exchange-formed L (Cnot a t) fits e = absurd (false≢true (sym e))
 exchange-formed L (Toffoli a b t) fits e =
     let l : ToffoliLines L a b t = toffoli-fits L a b t fits in
-    toffoli-formed L b a t (omega (arith, ltb-false a b e)) (record {
+    toffoli-formed L b a t (omega (arith, ltb-false a b e, controls-apart L a b t fits)) (record {
       first-below = l .second-below;
       second-below = l .first-below;
       target-below = l .target-below;
-      controls-apart = λ p. l .controls-apart (sym p);
       first-apart = l .second-apart;
       second-apart = l .first-apart;
     })

@@ -11,7 +11,7 @@ use Rattle.gate.specs.declared.gates.Gate.{Gate}
 use Rattle.gate.specs.declared.gates.Gate.the-variants.{Not, Cnot, Toffoli}
 use Rattle.gate.specs.Gates.{target, Controls, linesFit, lowerFirst, wellFormed, WellFormed, LinesFit}
 
--- what is known of a gate's lines where they are below L and all different
+-- what is known of a gate's lines where they are below L and all different, but for how two controls compare
 pub record CnotLines (L a t : ℕ) : Type 0 where
   pub control-below : a < L
   pub target-below : t < L
@@ -21,7 +21,6 @@ pub record ToffoliLines (L a b t : ℕ) : Type 0 where
   pub first-below : a < L
   pub second-below : b < L
   pub target-below : t < L
-  pub controls-apart : a ≢ b
   pub first-apart : a ≢ t
   pub second-apart : b ≢ t
 
@@ -53,7 +52,7 @@ module _ (L : ℕ) where
         apart = apart-true a t (both-second (ltb a L && ltb t L) (not (eqb a t)) fits);
       }
 
-  -- of a Toffoli they are known in either order of its controls
+  -- a Toffoli's are known in either order of its controls
   pub toffoli-fits : (a b t : ℕ) → LinesFit L (Toffoli a b t) → ToffoliLines L a b t
   unfolding linesFit
   toffoli-fits a b t fits =
@@ -67,10 +66,15 @@ module _ (L : ℕ) where
         first-below = ltb-true a L (both-first (ltb a L) (ltb b L) controls);
         second-below = ltb-true b L (both-second (ltb a L) (ltb b L) controls);
         target-below = ltb-true t L (both-second ab (ltb t L) below);
-        controls-apart = apart-true a b (both-first (not (eqb a b)) ends apart);
         first-apart = apart-true a t (both-first (not (eqb a t)) (not (eqb b t)) from-target);
         second-apart = apart-true b t (both-second (not (eqb a t)) (not (eqb b t)) from-target);
       }
+
+  pub controls-apart : (a b t : ℕ) → LinesFit L (Toffoli a b t) → a ≢ b
+  unfolding linesFit
+  controls-apart a b t fits =
+      let ends : Bool = not (eqb a t) && not (eqb b t) in
+      apart-true a b (both-first (not (eqb a b)) ends (both-second ((ltb a L && ltb b L) && ltb t L) (not (eqb a b) && ends) fits))
 
   pub toffoli-lines : (a b t : ℕ) → WellFormed L (Toffoli a b t) → ToffoliLines L a b t
   toffoli-lines a b t w = toffoli-fits a b t (formed-fits (Toffoli a b t) w)
@@ -126,7 +130,7 @@ module _ (L : ℕ) where
         lt-ltb a L (p .first-below),
         lt-ltb b L (p .second-below),
         lt-ltb t L (p .target-below),
-        ne-eqb a b (p .controls-apart),
+        ne-eqb a b (λ q. omega arith),
         ne-eqb a t (p .first-apart),
         ne-eqb b t (p .second-apart),
       )
