@@ -14,9 +14,10 @@ use Rattle.gate.specs.Running.{without, uncompute}
 use Rattle.gate.proofs.UncomputeLaws.{uncompute-snoc, one-out, one-kept}
 use Rattle.circuit.specs.Format.{fileLength}
 use Rattle.areas.specs.AreaGates.{putGates, gateIn, gatesFrom, bodyIn, Stored}
-use Rattle.appending.specs.Reversing.{Repeatable, Reversible}
+use Rattle.appending.specs.Reversing.{InOrder, Repeatable, Reversible}
 use Rattle.areas.proofs.WriterLaws.{put-length, put-none, put-append}
 use Rattle.areas.proofs.AreaLaws.{body-long, put-before, from-last, stored-none}
+use Rattle.appending.proofs.CopyLaws.{order-before}
 
 module _ (area : List ℕ) (i k out : ℕ) where
   -- its bytes are there, in the gates before gate k
@@ -53,6 +54,7 @@ module _ (area₀ : List ℕ) (from to at out : ℕ) where
     pub after : at ≤ k
     pub same : length area ≡ length area₀
     pub kept : (j : ℕ) → j < at → gateIn area j ≡ gateIn area₀ j
+    pub each : (j : ℕ) → j < to → from ≤ j → InOrder area j
     pub count : k + length (left i) ≡ at + length (left to)
     pub rest : putGates area k (left i) ≡ putGates area₀ at (left to)
 
@@ -60,7 +62,7 @@ module _ (area₀ : List ℕ) (from to at out : ℕ) where
     -- at first, all of them
     pub going-start : Going area₀ at to
     going-start =
-        record { low = r .ordered; high = omega arith; after = omega arith; same = refl; kept = λ j h. refl; count = refl; rest = refl }
+        record { low = r .ordered; high = omega arith; after = omega arith; same = refl; kept = λ j h. refl; each = r .each; count = refl; rest = refl }
 
     module _ {area : List ℕ} {k i : ℕ} (p : Going area k i) (more : from < i) where
       abbrev next : List Gate
@@ -85,6 +87,7 @@ module _ (area₀ : List ℕ) (from to at out : ℕ) where
       pub going-room : Repeatable area (i - 1) k out
       going-room =
           record {
+            order = p .each (i - 1) (omega (arith, p .high)) (omega arith);
             before = omega (arith, p .high, p .after, r .before);
             there = omega (arith, p .same, p .count, r .room);
             room = omega (arith, p .same, p .count, r .room, left-count);
@@ -100,6 +103,7 @@ module _ (area₀ : List ℕ) (from to at out : ℕ) where
             after = omega (arith, p .after);
             same = put-length area k next ∙ p .same;
             kept = λ j h. put-before area k next j (omega (arith, p .after)) ∙ p .kept j h;
+            each = λ j h q. order-before area j k next (omega (arith, p .after, r .before)) (p .each j h q);
             count = omega (arith, p .count, left-count);
             rest = put-append area k next (left (i - 1)) ∙ ap (putGates area k) (sym left-next) ∙ p .rest;
           })

@@ -3,74 +3,33 @@ use Prim.Native.Nat.{ℕ, _+_, _/_, _%_, _≤_, _<_}
 use native.Mathlib.Omega.{arith}
 use native.Mathlib.Nat.{add-zero}
 use mathlib.Core.Path.{_≡_, refl, sym, ap, _∙_}
+use mathlib.Core.Logic.{_≢_}
+use mathlib.Core.Option.{Option, none, some}
 use mathlib.Core.List.{List, [], _∷_}
 use lib.ListN.{length}
 use Rattle.wire.specs.Limits.{mostGates}
 use Rattle.gate.specs.declared.gates.Gate.{Gate}
-use Rattle.gate.specs.declared.gates.Gate.the-variants.{Not, Cnot, Toffoli}
+use Rattle.gate.specs.declared.gates.Gate.the-variants.{Not, Cnot}
 use Rattle.circuit.specs.Format.{fileLength}
-use Rattle.areas.specs.AreaGates.{putGates, Stored}
+use Rattle.areas.specs.AreaGates.{Stored}
 use Rattle.areas.proofs.AreaLaws.{stored-none, stored-then}
-use Rattle.node.specs.Exprs.{Expr, ZERO, ONE, INPUT, NOT, XOR, AND}
+use Rattle.areas.proofs.WriterLaws.{put-length}
+use Rattle.node.specs.Exprs.{Expr, ZERO, ONE, INPUT, NOT, XOR, AND, InputsBelow}
+use Rattle.node.specs.Nodes.{nodesIn}
+use Rattle.node.proofs.TreeLaws.{trees-below}
 use Rattle.program.specs.Tables.{treeIn}
 use Rattle.program.proofs.OperandLaws.{Operand, Unary, Binary}
-use Rattle.construction.specs.Pools.{allFree}
-use Rattle.construction.specs.Steps.{fresh, builtCount}
-use Rattle.construction.proofs.Numbers.{held, most, second, buildFrom}
-use Rattle.construction.proofs.PoolLaws.{tree-lines, reached-gates, reached-free, start-free}
-use Rattle.construction.proofs.CountLaws.{build-length}
+use Rattle.construction.specs.Pools.{allFree, lowestFree}
+use Rattle.construction.specs.Construction.{inputOf, andGate}
+use Rattle.construction.specs.Steps.{operandCount, builtCount}
+use Rattle.construction.proofs.Numbers.{controlFrom, operandGates, operandLines, held, most, nextFree, buildFrom}
+use Rattle.construction.proofs.AndLaws.{input-below, lines-built}
+use Rattle.construction.proofs.PoolLaws.{tree-lines, start-free, control-is}
+use Rattle.construction.proofs.CountLaws.{build-length, made-length, and-one}
 use Rattle.construction.proofs.LineLaws.{most-not, most-xor-first, most-xor-second, most-and-first, most-and-second}
-use Rattle.construct.specs.Writing.{lineNumbers, packed, Piece, single, tree, Wrote, Room}
-
--- a piece's gates where f is the lowest free line, and how many lines it holds then, by numbers
-abbrev pub gatesFrom : Piece → ℕ → List Gate
-gatesFrom (single g) f = g ∷ []
-gatesFrom (tree e t) f = buildFrom e t f
-
-abbrev pub holds : Piece → ℕ
-holds (single g) = 0
-holds (tree e t) = held e
-
--- a piece is written, by numbers
-pub record Written (piece : Piece) (k f r : ℕ) (old new : List ℕ) : Type 0 where
-  pub stored : Stored (gatesFrom piece f) k (r / lineNumbers) old new
-  pub free-to : r % lineNumbers ≡ f + holds piece
-
--- that is, as the construction does it
-module _ {k f r : ℕ} {old new : List ℕ} where
-  from : (piece : Piece) → Wrote piece k f r old new → Written piece k f r old new
-  from (single g) w =
-      record { stored = w .stores (allFree f) (fresh f) (start-free f); free-to = sym (w .leaves (allFree f) (fresh f) (start-free f)) ∙ start-free f ∙ sym (add-zero f) }
-  from (tree e t) w =
-      record {
-        stored = rw (reached-gates e t (fresh f) (start-free f)) at (w .stores (allFree f) (fresh f) (start-free f));
-        free-to = sym (w .leaves (allFree f) (fresh f) (start-free f)) ∙ reached-free e t (fresh f) (start-free f);
-      }
-
-  to : (piece : Piece) → Written piece k f r old new → Wrote piece k f r old new
-  to (single g) b = record { stores = λ q h low. b .stored; leaves = λ q h low. low ∙ sym (add-zero f) ∙ sym (b .free-to) }
-  to (tree e t) b = record {
-    stores = λ q h low. rw (reached-gates e t h low) (b .stored);
-    leaves = λ q h low. reached-free e t h low ∙ sym (b .free-to);
-  }
-
-  pub by-numbers : {piece : Piece} → Wrote piece k f r old new → Written piece k f r old new
-  by-numbers {piece} w = from piece w
-
-  pub wrote : {piece : Piece} → Written piece k f r old new → Wrote piece k f r old new
-  wrote {piece} b = to piece b
-
--- how far writing has come is read off one number
-module _ (j : ℕ) {f r : ℕ} (e : r ≡ packed j f) (h : f < lineNumbers) where
-  packed-gates : r / lineNumbers ≡ j
-  packed-gates = omega arith
-
-  packed-free : r % lineNumbers ≡ f
-  packed-free = omega arith
-
--- one gate is stored
-pub single-wrote : {g : Gate} {k f r : ℕ} {l l₁ : List ℕ} → r ≡ packed (k + 1) f → f < lineNumbers → l₁ ≡ putGates l k (g ∷ []) → Wrote (single g) k f r l l₁
-single-wrote {g} {k} {f} e h s = wrote (record { stored = record { count-to = packed-gates (k + 1) e h; area-to = s }; free-to = packed-free (k + 1) e h ∙ sym (add-zero f) })
+use Rattle.progress.specs.Progress.{lineNumbers, packed, single, tree, Wrote}
+use Rattle.progress.proofs.ProgressLaws.{by-numbers, wrote, packed-gates, packed-free}
+use Rattle.construct.specs.Writing.{ControlIs, Room}
 
 -- a tree's gates, from those of its operands
 pub built-zero : (t k f : ℕ) {r : ℕ} (l : List ℕ) → f < lineNumbers → r ≡ packed k f → Wrote (tree ZERO t) k f r l l
@@ -100,23 +59,75 @@ built-xor v w =
     let rest = by-numbers w in
     wrote (record { stored = stored-then (first .stored) (rw (first .free-to) at (rest .stored)); free-to = omega (arith, rest .free-to, first .free-to) })
 
-pub built-and : {a b : Expr} {t k f f′ g′ p q r : ℕ} {l l₁ l₂ l₃ : List ℕ}
-    → f′ ≡ f + 1 → Wrote (tree a f) k f′ p l l₁
-    → g′ ≡ p % lineNumbers + 1 → Wrote (tree b (p % lineNumbers)) (p / lineNumbers) g′ q l₁ l₂
-    → Wrote (single (Toffoli f (p % lineNumbers) t)) (q / lineNumbers) (q % lineNumbers) r l₂ l₃ → Wrote (tree (AND a b) t) k f r l l₃
-unfolding buildFrom held second
-built-and {a} {b} {t} {k} {f} {f′} {g′} {p} {q} {r} {l} {l₁} {l₂} {l₃} u v u′ w x =
-    let first = by-numbers v in
-    let rest = by-numbers w in
+-- the control of an operand, by what it is
+pub control-input : {e : Expr} {f j : ℕ} → e ≡ INPUT j → ControlIs e f j
+unfolding inputOf controlFrom
+control-input {e} {f} {j} h = record { is = λ q low. sym (control-is (inputOf e) _ q ∙ ap (λ (x : Expr). controlFrom (inputOf x) (lowestFree q)) h) }
+
+pub control-free : {e : Expr} {f : ℕ} → inputOf e ≡ none → ControlIs e f f
+unfolding controlFrom
+control-free {e} {f} h = record { is = λ q low. sym (control-is (inputOf e) _ q ∙ ap (λ (o : Option ℕ). controlFrom o (lowestFree q)) h ∙ low) }
+
+-- an operand of AND is made, by numbers
+pub record Made (e : Expr) (k f p : ℕ) (old new : List ℕ) : Type 0 where
+  pub stored : Stored (operandGates (inputOf e) (buildFrom e f (f + 1))) k (p / lineNumbers) old new
+  pub free-to : p % lineNumbers ≡ f + operandLines (inputOf e) (held e)
+
+-- its control, by numbers
+pub control-at : {e : Expr} {f r : ℕ} → ControlIs e f r → r ≡ controlFrom (inputOf e) f
+control-at {e} {f} c = c .is (allFree f) (start-free f) ∙ control-is (inputOf e) _ (allFree f) ∙ ap (controlFrom (inputOf e)) (start-free f)
+
+-- a control that is the lowest free line is no input's
+at-free : (q : Option ℕ) (n f : ℕ) → ((j : ℕ) → q ≡ some j → j < n) → n ≤ f → controlFrom q f ≡ f → q ≡ none
+unfolding controlFrom
+at-free (some j) n f h low e = absurd (omega (arith, h j refl))
+at-free none n f h low e = refl
+
+-- and one that is not is an input's: nothing is built, and no line is taken
+none-made : (q : Option ℕ) (f k : ℕ) (gs : List Gate) → controlFrom q f ≢ f → (operandGates q gs ≡ []) × (operandLines q k ≡ 0)
+unfolding controlFrom operandGates operandLines
+none-made (some j) f k gs h = (refl, refl)
+none-made none f k gs h = absurd (h refl)
+
+module _ {e : Expr} {k f p : ℕ} {l l₁ : List ℕ} where
+  -- an input is made as it is
+  pub made-input : {r q : ℕ} → ControlIs e f r → r ≢ f → f < lineNumbers → q ≡ packed k f → l₁ ≡ l → p ≡ q → Made e k f p l l₁
+  made-input {r} {q} c ne h d same to =
+      let what = none-made (inputOf e) f (held e) (buildFrom e f (f + 1)) (λ o. ne (control-at c ∙ o)) in
+      record {
+        stored = rw (what .0, to, packed-gates k d h, same) (stored-none k l);
+        free-to = ap (λ (m : ℕ). m % lineNumbers) to ∙ packed-free k d h ∙ sym (ap (λ (m : ℕ). f + m) (what .1) ∙ add-zero f);
+      }
+
+  -- any other operand by building it
+  pub made-built : {f′ q : ℕ} {l′ : List ℕ} → inputOf e ≡ none → f′ ≡ f + 1 → Wrote (tree e f) k f′ q l l′ → l₁ ≡ l′ → p ≡ q → Made e k f p l l₁
+  unfolding operandGates operandLines
+  made-built o d w same to =
+      let b = by-numbers w in
+      record {
+        stored = rw (o, same, to, ← d) (b .stored);
+        free-to = ap (λ (m : ℕ). m % lineNumbers) to ∙ b .free-to ∙ rw (o, d) (omega arith);
+      }
+
+  -- then the area is as long as it was
+  pub made-same : Made e k f p l l₁ → length l₁ ≡ length l
+  made-same v = ap (λ (x : List ℕ). length x) (v .stored .area-to) ∙ put-length l k (operandGates (inputOf e) (buildFrom e f (f + 1)))
+
+-- an AND's gates, from its operands and the gate from their controls
+pub built-and : {a b : Expr} {t c d k f p q r : ℕ} {l l₁ l₂ l₃ : List ℕ}
+    → ControlIs a f c → Made a k f p l l₁ → ControlIs b (p % lineNumbers) d → Made b (p / lineNumbers) (p % lineNumbers) q l₁ l₂
+    → Wrote (single (andGate c d t)) (q / lineNumbers) (q % lineNumbers) r l₂ l₃ → Wrote (tree (AND a b) t) k f r l l₃
+unfolding buildFrom held nextFree
+built-and {a} {b} {t} {c} {d} {k} {f} {p} {q} {r} {l} {l₁} {l₂} {l₃} ca u cb v x =
     let last = by-numbers x in
-    let g : ℕ = second f a in
-    let taken : p % lineNumbers ≡ g = first .free-to ∙ ap (λ (n : ℕ). n + held a) u in
-    let one : Stored (buildFrom a f (f + 1)) k (p / lineNumbers) l l₁ = rw u at (first .stored) in
-    let two : Stored (buildFrom b g (g + 1)) (p / lineNumbers) (q / lineNumbers) l₁ l₂ = rw (u′, taken) at (rest .stored) in
-    let three : Stored (Toffoli f g t ∷ []) (q / lineNumbers) (r / lineNumbers) l₂ l₃ = rw taken at (last .stored) in
+    let n : ℕ = nextFree f a in
+    let at : p % lineNumbers ≡ n = u .free-to in
+    let two : Stored (operandGates (inputOf b) (buildFrom b n (n + 1))) (p / lineNumbers) (q / lineNumbers) l₁ l₂ = rw at at (v .stored) in
+    let three : Stored (andGate (controlFrom (inputOf a) f) (controlFrom (inputOf b) n) t ∷ []) (q / lineNumbers) (r / lineNumbers) l₂ l₃ =
+    rw (control-at ca, control-at cb, at) at (last .stored) in
     wrote (record {
-      stored = stored-then one (stored-then two three);
-      free-to = omega (arith, last .free-to, rest .free-to, u′, taken);
+      stored = stored-then (stored-then (u .stored) two) three;
+      free-to = omega (arith, last .free-to, v .free-to, u .free-to);
     })
 
 -- the room for node i is enough for a part of it that starts later and ends no later
@@ -191,48 +202,75 @@ module _ {nodes : List ℕ} {i t k f : ℕ} {l : List ℕ} (m : Room nodes i t k
         (omega (arith, ap (builtCount 1) (u .is), w .stored .count-to, build-length (treeIn nodes a) t f))
         (omega (arith, ap most (u .is), most-xor-second (treeIn nodes a) (treeIn nodes b), w .free-to))
 
+  -- the inputs of every node are below their number
+  below : (j : ℕ) → InputsBelow (m .valid .inputs) (treeIn nodes j)
+  unfolding treeIn
+  below j = trees-below (m .valid .inputs) (nodesIn nodes) (m .valid .ordered) j
+
   module _ {a b : ℕ} (u : Binary AND nodes i a b) where
-    first-line : f + (1 + most (treeIn nodes a)) < lineNumbers
-    first-line = omega (arith, m .lines, tree-lines (treeIn nodes i) t f, ap most (u .is), most-and-first (treeIn nodes a) (treeIn nodes b))
+    -- an operand whose control is the lowest free line is built
+    is-built : (j : ℕ) {g r : ℕ} → f ≤ g → ControlIs (treeIn nodes j) g r → r ≡ g → inputOf (treeIn nodes j) ≡ none
+    is-built j {g} h c e =
+        at-free (inputOf (treeIn nodes j)) (m .valid .inputs) g (input-below (m .valid .inputs) (treeIn nodes j) (below j)) (omega (arith, m .behind, m .taken)) (sym (control-at c) ∙ e)
 
-    second-line : f + (1 + held (treeIn nodes a) + (1 + most (treeIn nodes b))) < lineNumbers
-    second-line = omega (arith, m .lines, tree-lines (treeIn nodes i) t f, ap most (u .is), most-and-second (treeIn nodes a) (treeIn nodes b))
+    first-lines : f + operandLines (inputOf (treeIn nodes a)) (most (treeIn nodes a)) < lineNumbers
+    first-lines = omega (arith, m .lines, tree-lines (treeIn nodes i) t f, ap most (u .is), most-and-first (treeIn nodes a) (treeIn nodes b))
 
-    -- there is a line for the first
-    pub line-first : f + 1 < lineNumbers
-    line-first = omega (arith, first-line)
+    second-lines : f + (operandLines (inputOf (treeIn nodes a)) (held (treeIn nodes a)) + operandLines (inputOf (treeIn nodes b)) (most (treeIn nodes b))) < lineNumbers
+    second-lines = omega (arith, m .lines, tree-lines (treeIn nodes i) t f, ap most (u .is), most-and-second (treeIn nodes a) (treeIn nodes b))
 
-    -- once it is taken
-    module _ {f′ : ℕ} (e : f′ ≡ f + 1) where
-      -- there is room for the first on any line that is taken
-      pub room-and-first : {t′ : ℕ} → t ≤ t′ → t′ < f′ → Room nodes a t′ k f′ (builtCount 1 (treeIn nodes a)) l
-      unfolding builtCount
-      room-and-first {t′} up h =
-          room-part a t′ k f′ l m (u .first) up h refl
-          (omega (arith, ap (builtCount 1) (u .is)))
-          (omega (arith, ap most (u .is), most-and-first (treeIn nodes a) (treeIn nodes b)))
+    gates-are : builtCount 1 (treeIn nodes i) ≡ operandCount (inputOf (treeIn nodes a)) (builtCount 1 (treeIn nodes a)) + operandCount (inputOf (treeIn nodes b)) (builtCount 1 (treeIn nodes b)) + 1
+    unfolding builtCount
+    gates-are = ap (builtCount 1) (u .is) ∙ omega (arith, and-one (inputOf (treeIn nodes a)) (inputOf (treeIn nodes b)))
 
-      module _ {t₁ p : ℕ} {l₁ : List ℕ} (v : Wrote (tree (treeIn nodes a) t₁) k f′ p l l₁) where
-        -- there is a line for the second
+    -- where the first operand is built
+    module _ {r : ℕ} (c : ControlIs (treeIn nodes a) f r) (e : r ≡ f) where
+      -- there is a line for it
+      pub line-first : f + 1 < lineNumbers
+      line-first = omega (arith, first-lines, lines-built (is-built a (omega arith) c e) (most (treeIn nodes a)))
+
+      -- and room, once that is taken
+      pub room-and-first : {f′ : ℕ} → f′ ≡ f + 1 → Room nodes a r k f′ (builtCount 1 (treeIn nodes a)) l
+      unfolding operandCount
+      room-and-first {f′} d =
+          let o : inputOf (treeIn nodes a) ≡ none = is-built a (omega arith) c e in
+          room-part a r k f′ l m (u .first) (omega (arith, m .taken)) (omega arith) refl
+          (omega (arith, rw o at gates-are))
+          (omega (arith, ap most (u .is), most-and-first (treeIn nodes a) (treeIn nodes b), lines-built o (most (treeIn nodes a))))
+
+      -- so it is made
+      pub made-first : {f′ p q : ℕ} {l₁ l′ : List ℕ} → f′ ≡ f + 1 → Wrote (tree (treeIn nodes a) r) k f′ q l l′ → l₁ ≡ l′ → p ≡ q → Made (treeIn nodes a) k f p l l₁
+      made-first d w same to = made-built (is-built a (omega arith) c e) d (rw e at w) same to
+
+    -- once the first operand is made
+    module _ {p : ℕ} {l₁ : List ℕ} (v : Made (treeIn nodes a) k f p l l₁) where
+      -- and the second is built
+      module _ {r : ℕ} (c : ControlIs (treeIn nodes b) (p % lineNumbers) r) (e : r ≡ p % lineNumbers) where
+        behind : f ≤ p % lineNumbers
+        behind = omega (arith, v .free-to)
+
+        -- there is a line for it
         pub line-second : p % lineNumbers + 1 < lineNumbers
-        line-second = omega (arith, second-line, by-numbers v .free-to)
+        line-second = omega (arith, second-lines, v .free-to, lines-built (is-built b behind c e) (most (treeIn nodes b)))
 
-        -- once it is taken too
-        module _ {g′ : ℕ} (e′ : g′ ≡ p % lineNumbers + 1) where
-          -- there is room for the second on any line that is taken
-          pub room-and-second : {t′ : ℕ} → t ≤ t′ → t′ < g′ → length l₁ ≡ length l → Room nodes b t′ (p / lineNumbers) g′ (builtCount 1 (treeIn nodes b)) l₁
-          unfolding builtCount
-          room-and-second {t′} up h same =
-              let w = by-numbers v in
-              room-part b t′ (p / lineNumbers) g′ l₁ m (u .second) up h same
-              (omega (arith, ap (builtCount 1) (u .is), w .stored .count-to, build-length (treeIn nodes a) t₁ f′))
-              (omega (arith, ap most (u .is), most-and-second (treeIn nodes a) (treeIn nodes b), w .free-to))
+        -- and room, once that is taken
+        pub room-and-second : {g′ : ℕ} → g′ ≡ p % lineNumbers + 1 → Room nodes b r (p / lineNumbers) g′ (builtCount 1 (treeIn nodes b)) l₁
+        unfolding operandCount
+        room-and-second {g′} d =
+            let o : inputOf (treeIn nodes b) ≡ none = is-built b behind c e in
+            room-part b r (p / lineNumbers) g′ l₁ m (u .second) (omega (arith, m .taken, behind)) (omega arith) (made-same v)
+            (omega (arith, rw o at gates-are, v .stored .count-to, made-length (treeIn nodes a) f))
+            (omega (arith, ap most (u .is), most-and-second (treeIn nodes a) (treeIn nodes b), lines-built o (most (treeIn nodes b)), v .free-to))
 
-          -- there is room for the gate that joins them
-          pub room-toffoli : {t₂ q : ℕ} {l₂ : List ℕ} → Wrote (tree (treeIn nodes b) t₂) (p / lineNumbers) g′ q l₁ l₂ → length l₂ ≡ length l
-              → (q / lineNumbers + 1 ≤ mostGates) × (fileLength (q / lineNumbers + 1) ≤ length l₂) × (q % lineNumbers < lineNumbers)
-          unfolding builtCount
-          room-toffoli {t₂} {q} {l₂} x same =
-              room-gate (q / lineNumbers) (q % lineNumbers) l₂ m same
-              (omega (arith, ap (builtCount 1) (u .is), by-numbers v .stored .count-to, build-length (treeIn nodes a) t₁ f′, by-numbers x .stored .count-to, build-length (treeIn nodes b) t₂ g′))
-              (omega arith)
+        -- so it is made
+        pub made-second : {g′ q q′ : ℕ} {l₂ l′ : List ℕ} → g′ ≡ p % lineNumbers + 1 → Wrote (tree (treeIn nodes b) r) (p / lineNumbers) g′ q′ l₁ l′ → l₂ ≡ l′ → q ≡ q′
+            → Made (treeIn nodes b) (p / lineNumbers) (p % lineNumbers) q l₁ l₂
+        made-second d w same to = made-built (is-built b behind c e) d (rw e at w) same to
+
+      -- there is room for the gate from their controls
+      pub room-and : {q : ℕ} {l₂ : List ℕ} → Made (treeIn nodes b) (p / lineNumbers) (p % lineNumbers) q l₁ l₂
+          → (q / lineNumbers + 1 ≤ mostGates) × (fileLength (q / lineNumbers + 1) ≤ length l₂) × (q % lineNumbers < lineNumbers)
+      room-and {q} {l₂} w =
+          room-gate (q / lineNumbers) (q % lineNumbers) l₂ m (made-same w ∙ made-same v)
+          (omega (arith, gates-are, v .stored .count-to, made-length (treeIn nodes a) f, w .stored .count-to, made-length (treeIn nodes b) (p % lineNumbers)))
+          (omega arith)

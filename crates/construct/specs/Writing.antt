@@ -1,41 +1,20 @@
--- What the functions that write the construction ask for, and what they leave in the area.
-use Prim.Native.Nat.{ℕ, _+_, _*_, _/_, _%_, _≤_, _<_}
+-- What building a tree asks for, and what an operand's control is.
+use Prim.Native.Nat.{ℕ, _+_, _≤_, _<_}
 use mathlib.Core.Path.{_≡_}
-use mathlib.Core.List.{List, [], _∷_}
+use mathlib.Core.List.{List}
 use lib.ListN.{length}
 use Rattle.wire.specs.Limits.{mostGates}
-use Rattle.gate.specs.declared.gates.Gate.{Gate}
 use Rattle.circuit.specs.Format.{fileLength}
-use Rattle.areas.specs.AreaGates.{Stored}
 use Rattle.node.specs.Exprs.{Expr}
 use Rattle.program.specs.Tables.{treeIn, Valid}
 use Rattle.construction.specs.Pools.{Pool, lowestFree}
-use Rattle.construction.specs.Construction.{Built, build}
-use Rattle.construction.specs.Steps.{Reached}
+use Rattle.construction.specs.Construction.{inputOf, operand, build}
 use Rattle.construction.specs.Theorems.{treeLines}
+use Rattle.progress.specs.Progress.{lineNumbers}
 
--- how many numbers a line can have, which is written in 16 bits
-abbrev pub lineNumbers : ℕ
-lineNumbers = 65536
-
--- how far writing has come, in one number: so many gates are written, and f is the lowest free line
-abbrev pub packed : ℕ → ℕ → ℕ
-packed gates f = gates * lineNumbers + f
-
--- a piece of the construction: one gate, or a tree that is built into line t
-pub data Piece : Type 0 where
-  single : Gate → Piece
-  tree : Expr → ℕ → Piece
-
--- what it does with a pool
-abbrev pub does : Piece → Pool → Built
-does (single g) q = record { gates = g ∷ []; pool = q }
-does (tree e t) q = build e t q
-
--- a piece is written from gate k on, as the construction does it with any pool that it reaches and whose lowest free line is f; r says how many gates there are then, and which line is the lowest free one
-pub record Wrote (piece : Piece) (k f r : ℕ) (old new : List ℕ) : Type 0 where
-  pub stores : (q : Pool) → Reached q → lowestFree q ≡ f → Stored (does piece q .gates) k (r / lineNumbers) old new
-  pub leaves : (q : Pool) → Reached q → lowestFree q ≡ f → lowestFree (does piece q .pool) ≡ r % lineNumbers
+-- r is the control of an operand with this tree, made with any pool whose lowest free line is f
+pub record ControlIs (e : Expr) (f r : ℕ) : Type 0 where
+  pub is : (q : Pool) → lowestFree q ≡ f → r ≡ operand (inputOf e) (build e) q .control
 
 -- there are lines for node i, whose line t is taken already, and room for so many gates from gate k on
 pub record Room (nodes : List ℕ) (i t k f gates : ℕ) (area : List ℕ) : Type 0 where

@@ -1,37 +1,17 @@
 // The gates of a tree, built from its node's operands.
-use areas::writer::write_gate;
 use gate::gates::Gate;
 use node::nodes::Node;
 use node::nodes::node_at;
+use progress::LINE_NUMBERS;
+use progress::pack;
+use progress::write_and;
+use progress::write_next;
 ghost use mathlib.Core.Path.{_≡_};
-ghost use Prim.Native.Nat.{_+_, _≤_, _<_};
-ghost use lib.ListN.{length};
-ghost use Rattle.wire.specs.Limits.{mostGates};
-ghost use Rattle.circuit.specs.Format.{fileLength};
-ghost use Rattle.program.specs.Tables.{treeIn};
+ghost use Prim.Native.Nat.{_+_, _<_};
+ghost use Rattle.program.specs.Tables.{treeIn, Valid};
 ghost use Rattle.construction.specs.Steps.{builtCount};
-ghost use Rattle.construct.specs.Writing.{lineNumbers, packed, single, tree, Wrote, Room};
-
-// How many numbers a line can have: it is written in 16 bits.
-pub const LINE_NUMBERS: usize = 65536;
-
-// How far writing has come, in one number: how many gates are written, and which line is the lowest
-// free one. A struct of both would come back through memory at every call.
-fn progress(gates: usize, free: usize) -> usize
-    requires { ⌜ (gates ≤ mostGates) × (free < lineNumbers) ⌝ }
-    ensures { λ r. ⌜ r ≡ packed gates free ⌝ }
-{
-    gates * LINE_NUMBERS + free
-}
-
-// Writes the next gate; how far writing has come then.
-fn append(area: &mut [u8], gates: usize, free: usize, gate: Gate) -> usize
-    requires { ⌜ (gates + 1 ≤ mostGates) × (fileLength (gates + 1) ≤ length (now area)) × (free < lineNumbers) ⌝ }
-    ensures { λ r. ⌜ Wrote (single gate) gates free r (now (area .entry)) (now (area .exit)) ⌝ }
-{
-    write_gate(area, gates, gate);
-    progress(gates + 1, free)
-}
+ghost use Rattle.progress.specs.Progress.{lineNumbers, tree, Wrote};
+ghost use Rattle.construct.specs.Writing.{ControlIs, Room};
 
 // Takes the lowest free line; the lowest that is free after it.
 fn take_line(free: usize) -> usize
@@ -41,8 +21,22 @@ fn take_line(free: usize) -> usize
     free + 1
 }
 
+// The line that is the control of node i, an operand of AND: an input's own; any other node's is the
+// lowest free line, where it has to be built.
+fn control_of(nodes: &[u8], i: usize, free: usize) -> u16
+    requires { ⌜ Valid (now nodes) i × (free < lineNumbers) ⌝ }
+    ensures { λ r. ⌜ ControlIs (treeIn (now (nodes .entry)) i) free r ⌝ }
+{
+    let node = node_at(nodes, i);
+    if let Node::Input(j) = node {
+        return j;
+    }
+    free as u16
+}
+
 // XORs node i into the line target, where so many gates are written and the line free is the lowest
-// free one; how far writing has come then. Calls itself on the operands, whose indices are lower.
+// free one; how far writing has come then. Calls itself on the operands, whose indices are lower, but
+// not on an AND's operand that is an input: its line is the control.
 pub fn build(
     nodes: &[u8],
     i: usize,
@@ -56,11 +50,11 @@ pub fn build(
 {
     let node = node_at(nodes, i);
     match node {
-        Node::Zero => progress(gates, free),
-        Node::One => append(area, gates, free, Gate::Not { target }),
-        Node::Input(j) => append(area, gates, free, Gate::Cnot { control: j, target }),
+        Node::Zero => pack(gates, free),
+        Node::One => write_next(area, gates, free, Gate::Not { target }),
+        Node::Input(j) => write_next(area, gates, free, Gate::Cnot { control: j, target }),
         Node::Not(a) => {
-            append(area, gates, free, Gate::Not { target });
+            write_next(area, gates, free, Gate::Not { target });
             build(nodes, a as usize, target, gates + 1, free, area)
         }
         Node::Xor(a, b) => {
@@ -70,21 +64,25 @@ pub fn build(
             build(nodes, b as usize, target, done, next, area)
         }
         Node::And(a, b) => {
-            let first = free as u16;
-            let p = build(nodes, a as usize, first, gates, take_line(free), area);
+            let first = control_of(nodes, a as usize, free);
+            let mut p = pack(gates, free);
+            // An input's line is below the target; only what has to be built has the free one.
+            if first as usize == free {
+                p = build(nodes, a as usize, first, gates, take_line(free), area);
+            }
             let done = p / LINE_NUMBERS;
             let next = p % LINE_NUMBERS;
-            let second = next as u16;
-            let q = build(nodes, b as usize, second, done, take_line(next), area);
-            append(
+            let second = control_of(nodes, b as usize, next);
+            if second as usize == next {
+                p = build(nodes, b as usize, second, done, take_line(next), area);
+            }
+            write_and(
                 area,
-                q / LINE_NUMBERS,
-                q % LINE_NUMBERS,
-                Gate::Toffoli {
-                    first,
-                    second,
-                    target,
-                },
+                p / LINE_NUMBERS,
+                p % LINE_NUMBERS,
+                first,
+                second,
+                target,
             )
         }
     }

@@ -1,23 +1,26 @@
 -- Laws of what building leaves on the lines (001, Theorem 1). Assumes nothing.
 use Prim.Native.Nat.{ℕ, _+_, _*_, _<_, _≤_}
 use native.Mathlib.Omega.{arith}
-use mathlib.Core.Path.{_≡_, sym, ap, ap₂, _∙_}
-use mathlib.Core.List.{List, [], _∷_, _++_}
+use mathlib.Core.Path.{_≡_, refl, sym, ap, ap₂, _∙_}
+use mathlib.Core.Option.{Option, none, some}
+use mathlib.Core.List.{List, [], _∷_}
 use lib.ListN.{length, take}
 use lib.Seq.{getD-take}
 use Rattle.wire.specs.Bits.{xorBit, bit, Bits}
 use Rattle.wire.proofs.BitLaws.{xor-end, xor-start, xor-assoc, bit-below, bits-take}
 use Rattle.gate.specs.declared.gates.Gate.{Gate}
-use Rattle.gate.specs.declared.gates.Gate.the-variants.{Not, Cnot, Toffoli}
-use Rattle.gate.specs.Gates.{target}
+use Rattle.gate.specs.declared.gates.Gate.the-variants.{Not, Cnot}
+use Rattle.gate.specs.Gates.{target, WellFormed, All}
 use Rattle.gate.specs.Running.{addend, step, run}
 use Rattle.gate.proofs.StepLaws.{length-run, step-target, step-other, step-bits, run-append, run-bits}
-use Rattle.node.specs.Exprs.{Expr, ZERO, ONE, INPUT, NOT, XOR, AND, value}
+use Rattle.node.specs.Exprs.{Expr, ZERO, ONE, INPUT, NOT, XOR, AND, value, InputsBelow}
 use Rattle.node.proofs.ValueLaws.{value-bit}
+use Rattle.construction.specs.Construction.{inputOf, andGate}
 use Rattle.construction.specs.Theorems.{Zeros, Computes}
 use Rattle.construction.proofs.AfterLaws.{same-front}
-use Rattle.construction.proofs.Numbers.{held, most, second, buildFrom, ApartFrom}
-use Rattle.construction.proofs.LineLaws.{most-not, most-xor-first, most-xor-second, most-and-first, most-and-second, apart-not, apart-xor-first, apart-xor-second, apart-and-first, apart-and-second, build-formed, build-leaves-from, build-frees}
+use Rattle.construction.proofs.Numbers.{controlFrom, operandGates, operandLines, held, most, nextFree, buildFrom, ApartFrom}
+use Rattle.construction.proofs.AndLaws.{is-input, input-below, control-by, all-made, lines-built, and-target, and-addend}
+use Rattle.construction.proofs.LineLaws.{most-not, most-xor-first, most-xor-second, most-and-first, most-and-second, apart-not, apart-xor-first, apart-xor-second, apart-and-first, apart-and-second, next-behind, operandsFrom, build-formed, build-leaves-from, build-frees}
 
 -- where a run leaves the first n lines, they are read as before
 pub inputs-run : (n : ℕ) (gs : List Gate) (s : List ℕ) → ((i : ℕ) → i < n → bit (run gs s) i ≡ bit s i) → take n (run gs s) ≡ take n s
@@ -44,9 +47,22 @@ module _ {n : ℕ} {e : Expr} {t f : ℕ} (s : List ℕ) (p : ApartFrom n e t f 
       ∙ ap (λ (v : ℕ). xorBit v (value e (take n s))) z
       ∙ xor-start (value e (take n s)) (value-bit e (take n s) (bits-take n s b))
 
+-- the gates that make an operand leave what those that build it leave
+made-leaves : (q : Option ℕ) (gs : List Gate) (s : List ℕ) (i : ℕ) → (q ≡ none → bit (run gs s) i ≡ bit s i) → bit (run (operandGates q gs) s) i ≡ bit s i
+unfolding operandGates run
+made-leaves (some j) gs s i h = refl
+made-leaves none gs s i h = h refl
+
+-- an operand's control holds its value, once the gates that make it have run
+made-value : (n : ℕ) (a : Expr) (q : Option ℕ) (f : ℕ) (gs : List Gate) (s : List ℕ) → inputOf a ≡ q → InputsBelow n a
+    → (q ≡ none → bit (run gs s) f ≡ value a (take n s)) → bit (run (operandGates q gs) s) (controlFrom q f) ≡ value a (take n s)
+unfolding operandGates controlFrom run value
+made-value n a (some j) f gs s e w h = sym (getD-take n s j 0 (input-below n a w j e)) ∙ ap (λ (b : Expr). value b (take n s)) (sym (is-input a j e))
+made-value n a none f gs s e w h = h refl
+
 -- building computes the tree: 001, Theorem 1
 pub build-computes-from : (n : ℕ) (e : Expr) (t f : ℕ) (s : List ℕ) → ApartFrom n e t f (length s) → Bits s → Zeros f (most e) s → Computes (buildFrom e t f) n e t s
-unfolding buildFrom second value run addend target
+unfolding buildFrom nextFree value run addend target
 build-computes-from n ZERO t f s p b zs = sym (xor-end (bit s t) (bit-below s b t))
 build-computes-from n ONE t f s p b zs = step-target (Not t) s (omega arith)
 build-computes-from n (INPUT j) t f s p b zs =
@@ -75,26 +91,48 @@ build-computes-from n (XOR a b) t f s p bs zs =
     ∙ ap₂ (λ (v : ℕ) (x : List ℕ). xorBit v (value b x)) at (inputs-kept s pa bs)
     ∙ xor-assoc (bit s t) (value a (take n s)) (value b (take n s))
 build-computes-from n (AND a b) t f s p bs zs =
-    let g : ℕ = second f a in
-    let A : List Gate = buildFrom a f (f + 1) in
-    let B : List Gate = buildFrom b g (g + 1) in
-    let T : Gate = Toffoli f g t in
+    let g : ℕ = nextFree f a in
+    let A : List Gate = operandGates (inputOf a) (buildFrom a f (f + 1)) in
+    let B : List Gate = operandGates (inputOf b) (buildFrom b g (g + 1)) in
+    let c : ℕ = controlFrom (inputOf a) f in
+    let d : ℕ = controlFrom (inputOf b) g in
+    let G : Gate = andGate c d t in
     let s₁ : List ℕ = run A s in
     let s₂ : List ℕ = run B s₁ in
-    let pa : ApartFrom n a f (f + 1) (length s) = apart-and-first p in
-    let pb : ApartFrom n b g (g + 1) (length s₁) = rw (length-run A s) (apart-and-second p) in
-    let b₁ : Bits s₁ = bits-kept s pa bs in
-    let ma : 1 + most a ≤ most (AND a b) = most-and-first a b in
-    let mb : 1 + held a + (1 + most b) ≤ most (AND a b) = most-and-second a b in
-    let za : Zeros (f + 1) (most a) s = λ i h k. zs i (omega arith) (omega arith) in
-    let zb : Zeros g (1 + most b) s₁ = zeros-kept s pa bs (1 + most b) (λ i h k. zs i (omega arith) (omega arith)) in
-    let first : bit s₁ f ≡ value a (take n s) =
-    holds-value s pa bs (zs f (omega arith) (omega arith)) (build-computes-from n a f (f + 1) s pa bs za) in
-    let last : bit s₂ g ≡ value b (take n s₁) =
-    holds-value s₁ pb b₁ (zb g (omega arith) (omega arith)) (build-computes-from n b g (g + 1) s₁ pb b₁ (λ i h k. zb i (omega arith) (omega arith))) in
-    let kept : bit s₂ f ≡ bit s₁ f = build-leaves-from b g (g + 1) s₁ f (omega arith) (λ h. omega arith) in
-    let left : bit s₂ t ≡ bit s t =
-    build-leaves-from b g (g + 1) s₁ t (omega arith) (λ h. omega arith) ∙ build-leaves-from a f (f + 1) s t (omega arith) (λ h. omega arith) in
-    ap (λ (r : List ℕ). bit r t) (run-append A (B ++ (T ∷ [])) s ∙ run-append B (T ∷ []) s₁)
-    ∙ step-target T s₂ (omega (arith, length-run B s₁, length-run A s))
-    ∙ ap₂ xorBit left (ap₂ _*_ (kept ∙ first) (last ∙ ap (value b) (inputs-kept s pa bs)))
+    let l₁ : length s₁ ≡ length s = length-run A s in
+    let formed : All (WellFormed (length s)) A = all-made _ (inputOf a) _ (λ e. build-formed n a f (f + 1) (length s) (apart-and-first p e)) in
+    let b₁ : Bits s₁ = run-bits A s formed bs in
+    let behind : f ≤ g = next-behind f a in
+    let ma : operandLines (inputOf a) (most a) ≤ most (AND a b) = most-and-first a b in
+    let mb : operandLines (inputOf a) (held a) + operandLines (inputOf b) (most b) ≤ most (AND a b) = most-and-second a b in
+    let same₁ : (i : ℕ) → (f ≤ i → g ≤ i) → bit s₁ i ≡ bit s i =
+    λ i h. made-leaves (inputOf a) (buildFrom a f (f + 1)) s i (λ e.
+    let l : operandLines (inputOf a) (held a) ≡ 1 + held a = lines-built e (held a) in
+    build-frees n a f (f + 1) s (apart-and-first p e) bs i (λ q. omega (arith, h (omega arith))) (λ q. omega (arith, h (omega arith)))) in
+    let same₂ : (i : ℕ) → i < g → bit s₂ i ≡ bit s₁ i =
+    λ i h. made-leaves (inputOf b) (buildFrom b g (g + 1)) s₁ i (λ e. build-leaves-from b g (g + 1) s₁ i (omega arith) (λ q. omega arith)) in
+    let inputs : take n s₁ ≡ take n s = inputs-run n A s (λ i h. same₁ i (λ q. omega arith)) in
+    let first : bit s₁ c ≡ value a (take n s) =
+    made-value n a (inputOf a) f (buildFrom a f (f + 1)) s refl (p .inputs .0) (λ e.
+    let l : operandLines (inputOf a) (most a) ≡ 1 + most a = lines-built e (most a) in
+    holds-value s (apart-and-first p e) bs (zs f (omega arith) (omega arith))
+    (build-computes-from n a f (f + 1) s (apart-and-first p e) bs (λ i h k. zs i (omega arith) (omega arith)))) in
+    let last : bit s₂ d ≡ value b (take n s₁) =
+    made-value n b (inputOf b) g (buildFrom b g (g + 1)) s₁ refl (p .inputs .1) (λ e.
+    let l : operandLines (inputOf b) (most b) ≡ 1 + most b = lines-built e (most b) in
+    let pb : ApartFrom n b g (g + 1) (length s₁) = rw l₁ (apart-and-second p e) in
+    let zb : Zeros g (1 + most b) s₁ = λ i h k. same₁ i (λ q. h) ∙ zs i (omega arith) (omega arith) in
+    holds-value s₁ pb b₁ (zb g (omega arith) (omega arith)) (build-computes-from n b g (g + 1) s₁ pb b₁ (λ i h k. zb i (omega arith) (omega arith)))) in
+    let below : c < g =
+    control-by (inputOf a) f (λ (k : ℕ). k < g)
+    (λ j e. let l : j < n = input-below n a (p .inputs .0) j e in omega arith)
+    (λ e. omega (arith, lines-built e (held a))) in
+    let kept : bit s₂ c ≡ value a (take n s) = same₂ c below ∙ first in
+    let left : bit s₂ t ≡ bit s t = same₂ t (omega arith) ∙ same₁ t (λ q. omega arith) in
+    let small : bit s₂ c < 2 = rw kept (value-bit a (take n s) (bits-take n s bs)) in
+    let e : target G ≡ t = and-target c d t in
+    let hit : bit (step G s₂) t ≡ xorBit (bit s₂ t) (addend G s₂) =
+    rw e at (step-target G s₂ (rw e (omega (arith, length-run B s₁)))) in
+    ap (λ (r : List ℕ). bit r t) (run-append (operandsFrom a b f) (G ∷ []) s ∙ ap (step G) (run-append A B s))
+    ∙ hit
+    ∙ ap₂ xorBit left (and-addend c d t s₂ small ∙ ap₂ _*_ kept (last ∙ ap (value b) inputs))

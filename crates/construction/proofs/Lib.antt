@@ -1,5 +1,6 @@
 pub mod AfterLaws
 pub mod AndCases
+pub mod AndLaws
 pub mod BuildLaws
 pub mod ComputeLaws
 pub mod CountLaws

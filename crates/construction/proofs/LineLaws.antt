@@ -1,21 +1,25 @@
 -- Laws of lines: how many the construction takes, and which of them its gates use. Assumes nothing.
 use Prim.Native.Nat.{ℕ, _+_, _<_, _≤_}
 use native.Mathlib.Omega.{arith}
-use mathlib.Core.Path.{_≡_}
+use mathlib.Core.Path.{_≡_, _∙_}
 use mathlib.Core.Logic.{_≢_}
-use mathlib.Core.List.{List}
+use mathlib.Core.Option.{none}
+use mathlib.Core.List.{List, [], _∷_, _++_}
 use lib.ListN.{length}
 use lib.Dec.{eqb}
 use borrow.Author.Tests.{ne-eqb}
 use Rattle.wire.specs.Bits.{bit, Bits}
+use Rattle.gate.specs.declared.gates.Gate.{Gate}
 use Rattle.gate.specs.Gates.{target, Controls, WellFormed, All}
 use Rattle.gate.specs.Running.{run}
 use Rattle.gate.specs.Theorems.{Spares}
 use Rattle.gate.proofs.AllLaws.{all-append, all-map}
 use Rattle.gate.proofs.StepLaws.{controls-map, run-other}
-use Rattle.gate.proofs.WellFormedLaws.{ToffoliLines, not-formed, cnot-formed, toffoli-formed}
+use Rattle.gate.proofs.WellFormedLaws.{not-formed, cnot-formed}
 use Rattle.node.specs.Exprs.{Expr, ZERO, ONE, INPUT, NOT, XOR, AND, InputsBelow}
-use Rattle.construction.proofs.Numbers.{held, most, second, buildFrom, ApartFrom}
+use Rattle.construction.specs.Construction.{inputOf}
+use Rattle.construction.proofs.Numbers.{controlFrom, operandGates, operandLines, held, most, nextFree, buildFrom, ApartFrom}
+use Rattle.construction.proofs.AndLaws.{input-below, control-by, all-made, lines-built, and-target, and-controls, and-formed}
 
 -- nothing taken is freed before the share is over
 pub most-held : (e : Expr) → most e ≤ held e
@@ -38,13 +42,13 @@ module _ (a b : Expr) where
   unfolding most held
   most-xor-second = omega arith
 
-  -- an AND takes a line for its first operand, and what that takes
-  pub most-and-first : 1 + most a ≤ most (AND a b)
+  -- an AND takes what its first operand takes
+  pub most-and-first : operandLines (inputOf a) (most a) ≤ most (AND a b)
   unfolding most held
   most-and-first = omega arith
 
-  -- and as much for its second, beside what the first still holds
-  pub most-and-second : 1 + held a + (1 + most b) ≤ most (AND a b)
+  -- and what its second takes beside what the first still holds
+  pub most-and-second : operandLines (inputOf a) (held a) + operandLines (inputOf b) (most b) ≤ most (AND a b)
   unfolding most held
   most-and-second = omega arith
 
@@ -60,16 +64,37 @@ module _ {n t f L : ℕ} where
     pub apart-xor-second : ApartFrom n (XOR a b) t f L → ApartFrom n b t (f + held a) L
     apart-xor-second p = record { inputs = p .inputs .1; behind = p .behind; free = omega arith; below = omega (arith, most-xor-second a b) }
 
-    pub apart-and-first : ApartFrom n (AND a b) t f L → ApartFrom n a f (f + 1) L
-    apart-and-first p = record { inputs = p .inputs .0; behind = omega arith; free = omega arith; below = omega (arith, most-and-first a b) }
+    -- an operand of AND that is built has its line, and takes those behind it
+    module _ (p : ApartFrom n (AND a b) t f L) where
+      pub apart-and-first : inputOf a ≡ none → ApartFrom n a f (f + 1) L
+      apart-and-first e = record { inputs = p .inputs .0; behind = omega arith; free = omega arith; below = omega (arith, most-and-first a b, lines-built e (most a)) }
 
-    pub apart-and-second : ApartFrom n (AND a b) t f L → ApartFrom n b (second f a) (second f a + 1) L
-    unfolding second
-    apart-and-second p = record { inputs = p .inputs .1; behind = omega arith; free = omega arith; below = omega (arith, most-and-second a b) }
+      pub apart-and-second : inputOf b ≡ none → ApartFrom n b (nextFree f a) (nextFree f a + 1) L
+      unfolding nextFree
+      apart-and-second e = record { inputs = p .inputs .1; behind = omega arith; free = omega arith; below = omega (arith, most-and-second a b, lines-built e (most b)) }
+
+-- the second operand's lines are behind the first's
+pub next-behind : (f : ℕ) (a : Expr) → f ≤ nextFree f a
+unfolding nextFree
+next-behind f a = omega arith
+
+-- the gates of an AND's operands
+abbrev pub operandsFrom : Expr → Expr → ℕ → List Gate
+operandsFrom a b f =
+    operandGates (inputOf a) (buildFrom a f (f + 1)) ++ operandGates (inputOf b) (buildFrom b (nextFree f a) (nextFree f a + 1))
+
+-- what holds of the gates that build them holds of these
+module _ (P : Gate → Type 0) (a b : Expr) (f : ℕ) (ha : inputOf a ≡ none → All P (buildFrom a f (f + 1))) (hb : inputOf b ≡ none → All P (buildFrom b (nextFree f a) (nextFree f a + 1))) where
+  pub all-operands : All P (operandsFrom a b f)
+  all-operands = all-append P (operandGates (inputOf a) (buildFrom a f (f + 1))) _ (all-made P (inputOf a) _ ha) (all-made P (inputOf b) _ hb)
+
+  -- and of all gates of the AND, where it holds of the last too
+  all-and : (g : Gate) → P g → All P (operandsFrom a b f ++ (g ∷ []))
+  all-and g h = all-append P (operandsFrom a b f) _ all-operands (h, tt)
 
 -- a line that is neither t nor taken is no gate's target
 pub build-misses : (e : Expr) (t f i : ℕ) → i ≢ t → (f ≤ i → f + most e ≤ i) → All (λ g. i ≢ target g) (buildFrom e t f)
-unfolding buildFrom second target
+unfolding buildFrom nextFree target
 build-misses ZERO t f i n h = tt
 build-misses ONE t f i n h = (n, tt)
 build-misses (INPUT j) t f i n h = (n, tt)
@@ -79,17 +104,21 @@ build-misses (XOR a b) t f i n h =
     (build-misses a t f i n (λ p. omega (arith, h p, most-xor-first a b)))
     (build-misses b t (f + held a) i n (λ p. omega (arith, h (omega arith), most-xor-second a b)))
 build-misses (AND a b) t f i n h =
-    let ma : 1 + most a ≤ most (AND a b) = most-and-first a b in
-    let mb : 1 + held a + (1 + most b) ≤ most (AND a b) = most-and-second a b in
-    all-append _ (buildFrom a f (f + 1)) _
-    (build-misses a f (f + 1) i (λ e. omega (arith, h (omega arith))) (λ p. omega (arith, h (omega arith))))
-    (all-append _ (buildFrom b (second f a) (second f a + 1)) _
-    (build-misses b (second f a) (second f a + 1) i (λ e. omega (arith, h (omega arith))) (λ p. omega (arith, h (omega arith))))
-    (n, tt))
+    let g : ℕ = nextFree f a in
+    let ma : operandLines (inputOf a) (most a) ≤ most (AND a b) = most-and-first a b in
+    let mb : operandLines (inputOf a) (held a) + operandLines (inputOf b) (most b) ≤ most (AND a b) = most-and-second a b in
+    all-and (λ x. i ≢ target x) a b f
+    (λ e.
+    let l : operandLines (inputOf a) (most a) ≡ 1 + most a = lines-built e (most a) in
+    build-misses a f (f + 1) i (λ q. omega (arith, h (omega arith))) (λ q. omega (arith, h (omega arith))))
+    (λ e.
+    let l : operandLines (inputOf b) (most b) ≡ 1 + most b = lines-built e (most b) in
+    build-misses b g (g + 1) i (λ q. omega (arith, h (omega arith))) (λ q. omega (arith, h (omega arith))))
+    _ (λ q. n (q ∙ and-target (controlFrom (inputOf a) f) (controlFrom (inputOf b) g) t))
 
 -- a control below f is an input
 pub build-controls : (e : Expr) (n t f : ℕ) → InputsBelow n e → All (Controls (λ c. c < f → c < n)) (buildFrom e t f)
-unfolding buildFrom second
+unfolding buildFrom nextFree
 build-controls ZERO n t f w = tt
 build-controls ONE n t f w = (tt, tt)
 build-controls (INPUT j) n t f w = (λ p. w, tt)
@@ -99,11 +128,15 @@ build-controls (XOR a b) n t f w =
     (build-controls a n t f (w .0))
     (all-map (controls-map (λ c h p. h (omega arith))) (buildFrom b t (f + held a)) (build-controls b n t (f + held a) (w .1)))
 build-controls (AND a b) n t f w =
-    all-append _ (buildFrom a f (f + 1)) _
-    (all-map (controls-map (λ c h p. h (omega arith))) (buildFrom a f (f + 1)) (build-controls a n f (f + 1) (w .0)))
-    (all-append _ (buildFrom b (second f a) (second f a + 1)) _
-    (all-map (controls-map (λ c h p. h (omega arith))) (buildFrom b (second f a) (second f a + 1)) (build-controls b n (second f a) (second f a + 1) (w .1)))
-    ((λ p. omega arith, λ p. omega arith), tt))
+    let g : ℕ = nextFree f a in
+    let Q : ℕ → Type 0 = λ c. c < f → c < n in
+    all-and (Controls Q) a b f
+    (λ e. all-map (controls-map (λ c h p. h (omega arith))) (buildFrom a f (f + 1)) (build-controls a n f (f + 1) (w .0)))
+    (λ e. all-map (controls-map (λ c h p. h (omega arith))) (buildFrom b g (g + 1)) (build-controls b n g (g + 1) (w .1)))
+    _
+    (and-controls (controlFrom (inputOf a) f) (controlFrom (inputOf b) g) t Q
+    (control-by (inputOf a) f Q (λ j e p. input-below n a (w .0) j e) (λ e p. omega arith))
+    (control-by (inputOf b) g Q (λ j e p. input-below n b (w .1) j e) (λ e p. omega arith)))
 
 -- the target is no control
 pub target-no-control-from : (n : ℕ) (e : Expr) (t f L : ℕ) → ApartFrom n e t f L → All (Spares (eqb t)) (buildFrom e t f)
@@ -112,7 +145,7 @@ target-no-control-from n e t f L p =
 
 -- each gate is well formed on the lines
 pub build-formed : (n : ℕ) (e : Expr) (t f L : ℕ) → ApartFrom n e t f L → All (WellFormed L) (buildFrom e t f)
-unfolding buildFrom second
+unfolding buildFrom
 build-formed n ZERO t f L p = tt
 build-formed n ONE t f L p = (not-formed L t (omega arith), tt)
 build-formed n (INPUT j) t f L p =
@@ -123,14 +156,21 @@ build-formed n (XOR a b) t f L p =
     (build-formed n a t f L (apart-xor-first p))
     (build-formed n b t (f + held a) L (apart-xor-second p))
 build-formed n (AND a b) t f L p =
-    let m : 1 + held a + (1 + most b) ≤ most (AND a b) = most-and-second a b in
-    let lines : ToffoliLines L f (second f a) t =
-    record { first-below = omega arith; second-below = omega arith; target-below = omega arith; first-apart = omega arith; second-apart = omega arith } in
-    all-append _ (buildFrom a f (f + 1)) _
-    (build-formed n a f (f + 1) L (apart-and-first p))
-    (all-append _ (buildFrom b (second f a) (second f a + 1)) _
-    (build-formed n b (second f a) (second f a + 1) L (apart-and-second p))
-    (toffoli-formed L f (second f a) t (omega arith) lines, tt))
+    let g : ℕ = nextFree f a in
+    let behind : f ≤ g = next-behind f a in
+    let Q : ℕ → Type 0 = λ c. (c < L) × (c ≢ t) in
+    let ca : Q (controlFrom (inputOf a) f) =
+    control-by (inputOf a) f Q
+    (λ j e. let l : j < n = input-below n a (p .inputs .0) j e in (omega arith, omega arith))
+    (λ e. let q = apart-and-first p e in (omega arith, omega arith)) in
+    let cb : Q (controlFrom (inputOf b) g) =
+    control-by (inputOf b) g Q
+    (λ j e. let l : j < n = input-below n b (p .inputs .1) j e in (omega arith, omega arith))
+    (λ e. let q = apart-and-second p e in (omega arith, omega arith)) in
+    all-and (WellFormed L) a b f
+    (λ e. build-formed n a f (f + 1) L (apart-and-first p e))
+    (λ e. build-formed n b g (g + 1) L (apart-and-second p e))
+    _ (and-formed (controlFrom (inputOf a) f) (controlFrom (inputOf b) g) t L (ca .0) (cb .0) (omega arith) (ca .1) (cb .1))
 
 -- every line but t and those taken stays as it was
 pub build-leaves-from : (e : Expr) (t f : ℕ) (s : List ℕ) (i : ℕ) → i ≢ t → (f ≤ i → f + most e ≤ i) → bit (run (buildFrom e t f) s) i ≡ bit s i

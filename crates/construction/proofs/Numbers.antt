@@ -1,11 +1,28 @@
 -- The construction by numbers, a shortcut: where the lines in use are the first ones, the lowest free line is a number and the pool is not needed.
 use Prim.Native.Nat.{ℕ, _+_, _≤_, _<_, max}
+use mathlib.Core.Option.{Option, none, some}
 use mathlib.Core.List.{List, [], _∷_, _++_}
 use lib.Dec.{eqb}
 use Rattle.gate.specs.declared.gates.Gate.{Gate}
-use Rattle.gate.specs.declared.gates.Gate.the-variants.{Not, Cnot, Toffoli}
+use Rattle.gate.specs.declared.gates.Gate.the-variants.{Not, Cnot}
 use Rattle.gate.specs.Running.{uncompute}
 use Rattle.node.specs.Exprs.{Expr, ZERO, ONE, INPUT, NOT, XOR, AND, InputsBelow}
+use Rattle.construction.specs.Construction.{inputOf, andGate}
+
+-- an operand's control, where f is the lowest free line
+unfoldable pub controlFrom : Option ℕ → ℕ → ℕ
+controlFrom (some j) f = j
+controlFrom none f = f
+
+-- the gates that make an operand, where these build its tree
+unfoldable pub operandGates : Option ℕ → List Gate → List Gate
+operandGates (some j) gs = []
+operandGates none gs = gs
+
+-- the work lines of an operand, where its tree has k besides the line that it is built on
+unfoldable pub operandLines : Option ℕ → ℕ → ℕ
+operandLines (some j) k = 0
+operandLines none k = 1 + k
 
 -- how many work lines a tree still holds when it is built
 unfoldable pub held : Expr → ℕ
@@ -14,15 +31,15 @@ held ONE = 0
 held (INPUT j) = 0
 held (NOT a) = held a
 held (XOR a b) = held a + held b
-held (AND a b) = 1 + held a + (1 + held b)
+held (AND a b) = operandLines (inputOf a) (held a) + operandLines (inputOf b) (held b)
 
 -- the most work lines that building a tree holds together
 unfoldable pub most : Expr → ℕ
 most e = held e
 
--- the line of an AND's second operand, where the first is built on line f
-unfoldable pub second : ℕ → Expr → ℕ
-second f a = f + 1 + held a
+-- the lowest free line after an AND's first operand, where it was f before it
+unfoldable pub nextFree : ℕ → Expr → ℕ
+nextFree f a = f + operandLines (inputOf a) (held a)
 
 -- the gates that XOR a tree into line t where f is the lowest free line
 unfoldable pub buildFrom : Expr → ℕ → ℕ → List Gate
@@ -31,7 +48,10 @@ buildFrom ONE t f = Not t ∷ []
 buildFrom (INPUT j) t f = Cnot j t ∷ []
 buildFrom (NOT a) t f = Not t ∷ buildFrom a t f
 buildFrom (XOR a b) t f = buildFrom a t f ++ buildFrom b t (f + held a)
-buildFrom (AND a b) t f = buildFrom a f (f + 1) ++ (buildFrom b (second f a) (second f a + 1) ++ (Toffoli f (second f a) t ∷ []))
+buildFrom (AND a b) t f =
+    let g = nextFree f a in
+    (operandGates (inputOf a) (buildFrom a f (f + 1)) ++ operandGates (inputOf b) (buildFrom b g (g + 1)))
+    ++ (andGate (controlFrom (inputOf a) f) (controlFrom (inputOf b) g) t ∷ [])
 
 -- the gates of a share, and of several
 unfoldable pub shareFrom : Expr → ℕ → ℕ → List Gate

@@ -5,6 +5,7 @@ use native.Mathlib.Nat.{add-zero}
 use mathlib.Core.Path.{_≡_, refl, sym, ap, ap₂, _∙_}
 use mathlib.Core.Logic.{_≢_}
 use mathlib.Core.Bool.{Bool, true, false, cond, false≢true}
+use mathlib.Core.Option.{Option, none, some}
 use mathlib.Core.List.{List, [], _∷_, _++_}
 use lib.ListN.{length, getD, take, drop}
 use lib.Dec.{eqb}
@@ -12,13 +13,12 @@ use borrow.Author.Tests.{eqb-true, eqb-false, ne-eqb}
 use Rattle.refusal.specs.Checks.{lowestFrom}
 use Rattle.refusal.proofs.CheckLaws.{by-test, lowest-before, lowest-none}
 use Rattle.gate.specs.declared.gates.Gate.{Gate}
-use Rattle.gate.specs.declared.gates.Gate.the-variants.{Toffoli}
 use Rattle.node.specs.Exprs.{Expr, ZERO, ONE, INPUT, NOT, XOR, AND}
 use Rattle.construction.specs.Pools.{Pool, isAmong, allFree, lowestFree, takeLine, freeAll}
 use Rattle.construction.specs.Theorems.{LowestFree, treeGates, treeLines, firstBuilt, firstShares, shareOf}
-use Rattle.construction.specs.Construction.{Built, build, share, shares, allShares, circuitGates, linesNeeded}
+use Rattle.construction.specs.Construction.{Built, MadeOperand, inputOf, operand, build, share, shares, allShares, circuitGates, linesNeeded}
 use Rattle.construction.specs.Steps.{Reached, fresh, taken, built, released}
-use Rattle.construction.proofs.Numbers.{held, most, second, buildFrom, shareFrom, sharesFrom, mostOf}
+use Rattle.construction.proofs.Numbers.{controlFrom, operandGates, operandLines, held, most, nextFree, buildFrom, shareFrom, sharesFrom, mostOf}
 
 -- the k lines from f on, highest first
 unfoldable pub linesFrom : ℕ → ℕ → List ℕ
@@ -40,7 +40,7 @@ lines-among f zero j h = absurd (omega arith)
 lines-among f (suc k) j h = by-test (eqb (f + j) (f + k)) (λ e. rw e refl) (λ e. rw e (lines-among f k j (omega (arith, eqb-false (f + j) (f + k) e))))
 
 -- the lowest free line is the one behind those in use
-lowest-behind : (f k m : ℕ) → lowestFree (inUse f k m) ≡ f + k
+pub lowest-behind : (f k m : ℕ) → lowestFree (inUse f k m) ≡ f + k
 unfolding lowestFree inUse
 lowest-behind f k m = rw (lines-length f k) (lowest-none (isAmong (linesFrom f k)) f k (lines-among f k))
 
@@ -56,38 +56,27 @@ take-behind f k m =
 built-same : {gs hs : List Gate} (f : ℕ) {k l m n : ℕ} → gs ≡ hs → k ≡ l → m ≡ n → _≡_ {A = Built} (record { gates = gs; pool = inUse f k m }) (record { gates = hs; pool = inUse f l n })
 built-same f p q r = rw (p, q, r) refl
 
--- the most lines in use together, where one is taken and then x more are
-peak-tree : (m k x : ℕ) → max (max m (k + 1)) (k + 1 + x) ≡ max m (k + 1 + x)
-peak-tree m k x = omega arith
+operand-same : {c d : ℕ} {gs hs : List Gate} (f : ℕ) {k l m n : ℕ} → c ≡ d → gs ≡ hs → k ≡ l → m ≡ n
+    → _≡_ {A = MadeOperand} (record { control = c; gates = gs; pool = inUse f k m }) (record { control = d; gates = hs; pool = inUse f l n })
+operand-same f o p q r = rw (o, p, q, r) refl
 
--- where the second tree holds at least what the first does
-peak-last : (m a b : ℕ) → a ≤ b → max (max m a) b ≡ max m b
-peak-last m a b h = omega arith
+-- a tree is built by numbers, where k lines are in use, from line f on
+abbrev ByNumbers : Expr → Type 0
+ByNumbers e = (t f k m : ℕ) → k ≤ m → build e t (inUse f k m) ≡ record { gates = buildFrom e t (f + k); pool = inUse f (k + held e) (max m (k + most e)) }
 
-peak-and : (m k x y : ℕ) → max (max (max (max m (k + 1)) (k + 1 + x)) (k + 1 + x + 1)) (k + 1 + x + 1 + y) ≡ max m (k + (1 + x + (1 + y)))
-peak-and m k x y =
-    let n : k + 1 + x + 1 + y ≡ k + (1 + x + (1 + y)) = omega arith in
-    ap (λ (c : ℕ). max (max c (k + 1 + x + 1)) (k + 1 + x + 1 + y)) (peak-tree m k x)
-    ∙ peak-tree (max m (k + 1 + x)) (k + 1 + x) y
-    ∙ peak-last m (k + 1 + x) (k + 1 + x + 1 + y) (omega arith)
-    ∙ ap (max m) n
+-- then it is made by numbers as an operand too
+pub made-is : (q : Option ℕ) (a : Expr) → ByNumbers a → (f k m : ℕ) → k ≤ m
+    → operand q (build a) (inUse f k m)
+    ≡ record { control = controlFrom q (f + k); gates = operandGates q (buildFrom a (f + k) (f + k + 1)); pool = inUse f (k + operandLines q (held a)) (max m (k + operandLines q (most a))) }
+unfolding operand controlFrom operandGates operandLines
+made-is (some j) a is f k m h = operand-same f refl refl (omega arith) (omega arith)
+made-is none a is f k m h =
+    let one : f + (k + 1) ≡ f + k + 1 = omega arith in
+    rw (lowest-behind f k m, take-behind f k m, is (f + k) f (k + 1) (max m (k + 1)) (omega arith))
+    (operand-same f refl (ap (buildFrom a (f + k)) one) (omega arith) (omega arith))
 
--- an AND from its parts: the lines of its operands, and what they build
-and-parts : (a b : Expr) (t : ℕ) (p : Pool) {c d : ℕ} (x y : Built)
-    → lowestFree p ≡ c → build a c (takeLine p) ≡ x → lowestFree (x .pool) ≡ d → build b d (takeLine (x .pool)) ≡ y
-    → build (AND a b) t p ≡ record { gates = x .gates ++ (y .gates ++ (Toffoli c d t ∷ [])); pool = y .pool }
-unfolding build
-and-parts a b t p x y e₁ e₂ e₃ e₄ = rw (e₁, e₂, e₃, e₄) refl
-
--- and its gates by numbers
-and-gates : (a b : Expr) (t f : ℕ) {g c d : ℕ} → g ≡ f + 1 → c ≡ second f a → d ≡ second f a + 1
-    → (buildFrom a f g ++ (buildFrom b c d ++ (Toffoli f c t ∷ []))) ≡ buildFrom (AND a b) t f
-unfolding buildFrom
-and-gates a b t f e₁ e₂ e₃ = rw (e₁, e₂, e₃) refl
-
--- a tree by numbers, where k lines are in use, from line f on
-pub build-is : (e : Expr) (t f k m : ℕ) → k ≤ m → build e t (inUse f k m) ≡ record { gates = buildFrom e t (f + k); pool = inUse f (k + held e) (max m (k + most e)) }
-unfolding build buildFrom held most second
+pub build-is : (e : Expr) → ByNumbers e
+unfolding build buildFrom held most nextFree
 build-is ZERO t f k m h = built-same f refl (omega arith) (omega arith)
 build-is ONE t f k m h = built-same f refl (omega arith) (omega arith)
 build-is (INPUT j) t f k m h = built-same f refl (omega arith) (omega arith)
@@ -97,18 +86,11 @@ build-is (XOR a b) t f k m h =
     rw (build-is a t f k m h, build-is b t f (k + held a) (max m (k + most a)) (omega arith))
     (built-same f (ap (λ (g : ℕ). buildFrom a t (f + k) ++ buildFrom b t g) at) (omega arith) (omega arith))
 build-is (AND a b) t f k m h =
-    let k₁ : ℕ = k + 1 + held a in
-    let m₁ : ℕ = max (max m (k + 1)) (k + 1 + most a) in
-    let x : Built = record { gates = buildFrom a (f + k) (f + (k + 1)); pool = inUse f k₁ m₁ } in
-    let y : Built = record { gates = buildFrom b (f + k₁) (f + (k₁ + 1)); pool = inUse f (k₁ + 1 + held b) (max (max m₁ (k₁ + 1)) (k₁ + 1 + most b)) } in
-    let one : f + (k + 1) ≡ f + k + 1 = omega arith in
-    let two : f + k₁ ≡ second (f + k) a = omega arith in
-    let three : f + (k₁ + 1) ≡ second (f + k) a + 1 = omega arith in
-    and-parts a b t (inUse f k m) x y (lowest-behind f k m)
-    (ap (build a (f + k)) (take-behind f k m) ∙ build-is a (f + k) f (k + 1) (max m (k + 1)) (omega arith))
-    (lowest-behind f k₁ m₁)
-    (ap (build b (f + k₁)) (take-behind f k₁ m₁) ∙ build-is b (f + k₁) f (k₁ + 1) (max m₁ (k₁ + 1)) (omega arith))
-    ∙ built-same f (and-gates a b t (f + k) one two three) (omega arith) (peak-and m k (held a) (held b))
+    let k₁ : ℕ = k + operandLines (inputOf a) (held a) in
+    let m₁ : ℕ = max m (k + operandLines (inputOf a) (most a)) in
+    let two : f + k₁ ≡ nextFree (f + k) a = omega arith in
+    rw (made-is (inputOf a) a (build-is a) f k m h, made-is (inputOf b) b (build-is b) f k₁ m₁ (omega arith))
+    (rw two (built-same f refl (omega arith) (omega arith)))
 
 -- the same where no line was taken yet
 all-free : (f : ℕ) → allFree f ≡ inUse f 0 0
@@ -177,15 +159,15 @@ module _ (n : ℕ) (es : List Expr) (j : ℕ) where
   rest-shares = rw first-built (ap (λ (b : Built). b .gates) (shares-are (drop j es) (n + j) (n + length es) (mostOf (take j es))))
 
 -- the lines in use of a pool are its first ones
-record FirstUsed (p : Pool) : Type 0 where
-  line : ℕ
-  count : ℕ
-  peak : ℕ
-  few : count ≤ peak
-  is : p ≡ inUse line count peak
+pub record FirstUsed (p : Pool) : Type 0 where
+  pub line : ℕ
+  pub count : ℕ
+  pub peak : ℕ
+  pub few : count ≤ peak
+  pub is : p ≡ inUse line count peak
 
 -- so they are in every pool that the construction reaches
-reached-first : (p : Pool) → Reached p → FirstUsed p
+pub reached-first : (p : Pool) → Reached p → FirstUsed p
 unfolding most
 reached-first _ (fresh f) = record { line = f; count = 0; peak = 0; few = omega arith; is = all-free f }
 reached-first _ (taken p h) =
@@ -225,6 +207,12 @@ module _ (e : Expr) (t : ℕ) {p : Pool} {f : ℕ} (h : Reached p) (low : lowest
 -- where all lines from f on are free, f is the lowest
 pub start-free : (f : ℕ) → lowestFree (allFree f) ≡ f
 start-free f = ap lowestFree (all-free f) ∙ lowest-behind f 0 0 ∙ add-zero f
+
+-- an operand's control depends on the pool by its lowest free line alone
+pub control-is : (q : Option ℕ) (into : ℕ → Pool → Built) (p : Pool) → operand q into p .control ≡ controlFrom q (lowestFree p)
+unfolding operand controlFrom
+control-is (some j) into p = refl
+control-is none into p = refl
 
 -- one of the lines in use is taken off the list
 unfoldable less : List ℕ → ℕ → List ℕ

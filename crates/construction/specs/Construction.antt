@@ -1,5 +1,7 @@
 -- The construction (001, 4.1): the gates of a tree, of an output's share, and of a whole circuit.
-use Prim.Native.Nat.{ℕ, _+_}
+use Prim.Native.Nat.{ℕ, _+_, min, max}
+use mathlib.Core.Bool.{cond}
+use mathlib.Core.Option.{Option, none, some}
 use mathlib.Core.List.{List, [], _∷_, _++_}
 use lib.ListN.{length}
 use lib.Dec.{eqb}
@@ -14,7 +16,33 @@ pub record Built : Type 0 where
   pub gates : List Gate
   pub pool : Pool
 
--- XORing a tree into line t (001, COMPILE-BEXP); NOT is 1 XOR its operand. An AND takes the lowest free work line, builds its first operand there, takes the next lowest, builds the second there, then writes a Toffoli from the two to t
+-- the input that a tree is, where it is an INPUT node and nothing else
+unfoldable pub inputOf : Expr → Option ℕ
+inputOf ZERO = none
+inputOf ONE = none
+inputOf (INPUT j) = some j
+inputOf (NOT a) = none
+inputOf (XOR a b) = none
+inputOf (AND a b) = none
+
+-- an operand of AND when it is made: the line that is its control, the gates that make it, and the pool of work lines after them
+pub record MadeOperand : Type 0 where
+  pub control : ℕ
+  pub gates : List Gate
+  pub pool : Pool
+
+-- making an operand (02, A5): an input is its own line, with no gates and no line taken; any other takes the lowest free work line and is built there, by into
+unfoldable pub operand : Option ℕ → (ℕ → Pool → Built) → Pool → MadeOperand
+operand (some j) into p = record { control = j; gates = []; pool = p }
+operand none into p =
+    let x = into (lowestFree p) (takeLine p) in
+    record { control = lowestFree p; gates = x .gates; pool = x .pool }
+
+-- the gate of an AND to line t: a CNOT where both controls are one line, else a Toffoli, the lower control first (02, A5)
+unfoldable pub andGate : ℕ → ℕ → ℕ → Gate
+andGate c d t = cond (eqb c d) (Cnot c t) (Toffoli (min c d) (max c d) t)
+
+-- XORing a tree into line t (001, COMPILE-BEXP); NOT is 1 XOR its operand. An AND makes its first operand, then its second, then writes one gate from their controls to t
 unfoldable pub build : Expr → ℕ → Pool → Built
 build ZERO t p = record { gates = []; pool = p }
 build ONE t p = record { gates = Not t ∷ []; pool = p }
@@ -27,11 +55,9 @@ build (XOR a b) t p =
     let y = build b t (x .pool) in
     record { gates = x .gates ++ y .gates; pool = y .pool }
 build (AND a b) t p =
-    let c = lowestFree p in
-    let x = build a c (takeLine p) in
-    let d = lowestFree (x .pool) in
-    let y = build b d (takeLine (x .pool)) in
-    record { gates = x .gates ++ (y .gates ++ (Toffoli c d t ∷ [])); pool = y .pool }
+    let x = operand (inputOf a) (build a) p in
+    let y = operand (inputOf b) (build b) (x .pool) in
+    record { gates = (x .gates ++ y .gates) ++ (andGate (x .control) (y .control) t ∷ []); pool = y .pool }
 
 -- the share (01) of an output with target t: its gates, then these reversed without those whose target is t (001, uncompute); then all work lines are free again
 unfoldable pub share : Expr → ℕ → Pool → Built

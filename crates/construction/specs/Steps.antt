@@ -1,9 +1,12 @@
 -- What the code that counts and builds is held to: no service's definition is here.
 use Prim.Native.Nat.{ℕ, _+_}
+use mathlib.Core.Bool.{Bool, false, cond}
+use mathlib.Core.Option.{Option, none, some}
 use mathlib.Core.List.{List, [], _∷_}
+use lib.Dec.{eqb}
 use Rattle.node.specs.Exprs.{Expr, ZERO, ONE, INPUT, NOT, XOR, AND}
 use Rattle.construction.specs.Pools.{Pool, allFree, takeLine, freeAll}
-use Rattle.construction.specs.Construction.{build}
+use Rattle.construction.specs.Construction.{inputOf, build}
 
 -- a pool that the construction reaches
 pub data Reached : Pool → Type 0 where
@@ -12,6 +15,21 @@ pub data Reached : Pool → Type 0 where
   built : (e : Expr) (t : ℕ) (p : Pool) → Reached p → Reached (build e t p .pool)
   released : (p : Pool) → Reached p → Reached (freeAll p)
 
+-- how many gates make an operand of AND, where k build its tree: none where it is an input
+unfoldable pub operandCount : Option ℕ → ℕ → ℕ
+operandCount (some j) k = 0
+operandCount none k = k
+
+-- whether two operands of AND name the same input
+unfoldable pub sameInput : Option ℕ → Option ℕ → Bool
+sameInput (some i) (some j) = eqb i j
+sameInput (some i) none = false
+sameInput none r = false
+
+-- what the gate of an AND counts, where a CNOT counts c and a Toffoli 1: it is a CNOT where both operands name the same input
+unfoldable pub andCount : ℕ → Option ℕ → Option ℕ → ℕ
+andCount c q r = cond (sameInput q r) c 1
+
 -- how many gates build a tree, where a NOT or CNOT counts c and a Toffoli 1: with c 1 all of them, with c 0 the Toffolis
 unfoldable pub builtCount : ℕ → Expr → ℕ
 builtCount c ZERO = 0
@@ -19,16 +37,16 @@ builtCount c ONE = c
 builtCount c (INPUT j) = c
 builtCount c (NOT a) = c + builtCount c a
 builtCount c (XOR a b) = builtCount c a + builtCount c b
-builtCount c (AND a b) = builtCount c a + builtCount c b + 1
+builtCount c (AND a b) = operandCount (inputOf a) (builtCount c a) + operandCount (inputOf b) (builtCount c b) + andCount c (inputOf a) (inputOf b)
 
--- how many of them a share undoes, counted so: all but those on the tree's own line; of an AND only the last gate, its Toffoli, is on it
+-- how many of them a share undoes, counted so: all but those on the tree's own line; of an AND only the last gate is on it
 unfoldable pub undoneCount : ℕ → Expr → ℕ
 undoneCount c ZERO = 0
 undoneCount c ONE = 0
 undoneCount c (INPUT j) = 0
 undoneCount c (NOT a) = undoneCount c a
 undoneCount c (XOR a b) = undoneCount c a + undoneCount c b
-undoneCount c (AND a b) = builtCount c a + builtCount c b
+undoneCount c (AND a b) = operandCount (inputOf a) (builtCount c a) + operandCount (inputOf b) (builtCount c b)
 
 -- how many gates or Toffolis a share has: those that build its tree, and those undone
 unfoldable pub shareCount : ℕ → Expr → ℕ

@@ -12,9 +12,10 @@ use Rattle.gate.specs.declared.gates.Gate.{Gate}
 use Rattle.gate.specs.Gates.{WellFormed, All}
 use Rattle.gate.specs.Running.{run}
 use Rattle.gate.specs.Theorems.{Spares}
-use Rattle.node.specs.Exprs.{Expr, ZERO, value, InputsBelow, EachBelow}
+use Rattle.node.specs.Exprs.{Expr, ZERO, INPUT, AND, value, InputsBelow, EachBelow}
 use Rattle.construction.specs.Pools.{Pool, lowestFree, isAmong, allFree}
-use Rattle.construction.specs.Construction.{Built, build, share, shares, circuitGates, linesNeeded}
+use Rattle.construction.specs.Construction.{Built, inputOf, operand, build, share, shares, circuitGates, linesNeeded}
+use Rattle.construction.specs.Steps.{Reached}
 
 -- the line that a pool gives is free, and every work line below it is in use
 pub record LowestFree (p : Pool) : Type 0 where
@@ -53,6 +54,20 @@ BuildComputes =
 -- from every start, building leaves every line but t and those taken as it was
 abbrev pub BuildLeaves : Type 0
 BuildLeaves = (e : Expr) (t f : ℕ) (s : List ℕ) (i : ℕ) → i ≢ t → (f ≤ i → f + treeLines e t f ≤ i) → bit (run (treeGates e t f) s) i ≡ bit s i
+
+-- the operands of an AND name the same input
+pub record OneInput (a b : Expr) : Type 0 where
+  pub input : ℕ
+  pub first : a ≡ INPUT input
+  pub second : b ≡ INPUT input
+
+-- the controls of an AND are one line only where its operands name the same input (02, A5), whatever pool the construction has reached behind the inputs: no work line is both, and none is an input
+abbrev pub OneControl : Type 0
+OneControl =
+    (n : ℕ) (a b : Expr) (p : Pool) → InputsBelow n (AND a b) → Reached p → n ≤ p .first
+    → let x = operand (inputOf a) (build a) p in
+    let y = operand (inputOf b) (build b) (x .pool) in
+    x .control ≡ y .control → OneInput a b
 
 -- the target is no control
 abbrev pub TargetNoControl : Type 0

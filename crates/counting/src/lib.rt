@@ -3,17 +3,18 @@ use node::nodes::Node;
 use node::nodes::node_at;
 use program::reader::output_at;
 ghost use mathlib.Core.Path.{_≡_};
-ghost use Prim.Native.Nat.{_+_, _≤_, max};
-ghost use Rattle.counting.specs.Counters.{Few, mostCounted, Countable, Counted, AllCountable, Needed};
-ghost use Rattle.program.specs.Tables.{treeIn, treesIn};
+ghost use Prim.Native.Nat.{_+_, _*_, _/_, _%_, _≤_, max};
+ghost use Rattle.construction.specs.Construction.{inputOf};
+ghost use Rattle.program.specs.Tables.{treeIn, treesIn, Valid};
+ghost use Rattle.counting.specs.Counters.{countNumbers, packedCounts, mostPacked, isBuilt, mostCounted, Countable, Counted, AllCountable, Needed};
 
-// A tree's numbers: its gates, those of them that a share undoes, and the most work lines that it
-// holds together.
-pub struct TreeCounts {
-    pub gates: usize,
-    pub undone: usize,
-    pub lines: usize,
-}
+// A tree's numbers are its gates, those of them that a share undoes, and the most work lines that it
+// holds together. They go into one number, each below this, since a struct of three would come back
+// through memory at every call; so the numbers of two trees are added by one sum.
+const COUNT_NUMBERS: usize = 65536;
+
+// One work line, as it stands there.
+const ONE_LINE: usize = 65536 * 65536;
 
 // A circuit's numbers: its gates, and the most work lines that any output takes.
 pub struct Needs {
@@ -21,71 +22,53 @@ pub struct Needs {
     pub lines: usize,
 }
 
-// A leaf's numbers: it has one gate or none, which is not undone, and takes no line.
-fn count_leaf(gates: usize) -> TreeCounts
-    ensures { λ r. ⌜ r ≡ record { gates = gates; undone = 0; lines = 0 } ⌝ }
+// Whether node i is built as an operand of AND, on a line of its own: an input is not.
+fn is_built(nodes: &[u8], i: usize) -> bool
+    requires { ⌜ Valid (now nodes) i ⌝ }
+    ensures { λ r. ⌜ r ≡ isBuilt (inputOf (treeIn (now (nodes .entry)) i)) ⌝ }
 {
-    TreeCounts {
-        gates,
-        undone: 0,
-        lines: 0,
+    let node = node_at(nodes, i);
+    if let Node::Input(_) = node {
+        return false;
     }
+    true
 }
 
-// The numbers of NOT: a gate on the same line comes first.
-fn count_not(x: TreeCounts) -> TreeCounts
-    requires { ⌜ Few x ⌝ }
-    ensures { λ r. ⌜ r ≡ record { gates = 1 + x .gates; undone = x .undone; lines = x .lines } ⌝ }
+// The numbers of AND, from the sum of its operands' numbers: all gates that make them are undone, and
+// one more goes to the target.
+fn count_and(made: usize) -> usize
+    requires { ⌜ made ≤ 2 * mostPacked ⌝ }
+    ensures { λ r. ⌜ r ≡ packedCounts (made % countNumbers + 1) (made % countNumbers) (made / countNumbers / countNumbers) ⌝ }
 {
-    TreeCounts {
-        gates: 1 + x.gates,
-        undone: x.undone,
-        lines: x.lines,
-    }
+    let gates = made % COUNT_NUMBERS;
+    let lines = made / COUNT_NUMBERS / COUNT_NUMBERS;
+    (lines * COUNT_NUMBERS + gates) * COUNT_NUMBERS + gates + 1
 }
 
-// The numbers of XOR: both operands go to the same line.
-fn count_xor(x: TreeCounts, y: TreeCounts) -> TreeCounts
-    requires { ⌜ Few x × Few y ⌝ }
-    ensures { λ r. ⌜ r ≡ record { gates = x .gates + y .gates; undone = x .undone + y .undone; lines = x .lines + y .lines } ⌝ }
-{
-    TreeCounts {
-        gates: x.gates + y.gates,
-        undone: x.undone + y.undone,
-        lines: x.lines + y.lines,
-    }
-}
-
-// The numbers of AND: each operand has a line of its own, and is undone; one gate goes to the target.
-fn count_and(x: TreeCounts, y: TreeCounts) -> TreeCounts
-    requires { ⌜ Few x × Few y ⌝ }
-    ensures { λ r. ⌜ r ≡ record { gates = x .gates + y .gates + 1; undone = x .gates + y .gates; lines = 1 + x .lines + (1 + y .lines) } ⌝ }
-{
-    TreeCounts {
-        gates: x.gates + y.gates + 1,
-        undone: x.gates + y.gates,
-        lines: 1 + x.lines + (1 + y.lines),
-    }
-}
-
-// Counts node i. Calls itself on the operands, whose indices are lower.
-pub fn count(nodes: &[u8], i: usize) -> TreeCounts
+// Counts node i. Calls itself on the operands, whose indices are lower, but for an AND's inputs.
+pub fn count(nodes: &[u8], i: usize) -> usize
     requires { ⌜ Countable (now nodes) i ⌝ }
     ensures { λ r. ⌜ Counted (treeIn (now (nodes .entry)) i) r ⌝ }
 {
     let node = node_at(nodes, i);
     match node {
-        Node::Zero => count_leaf(0),
-        Node::One => count_leaf(1),
-        Node::Input(_) => count_leaf(1),
-        Node::Not(a) => count_not(count(nodes, a as usize)),
+        Node::Zero => 0,
+        Node::One => 1,
+        Node::Input(_) => 1,
+        Node::Not(a) => 1 + count(nodes, a as usize),
         Node::Xor(a, b) => {
             let x = count(nodes, a as usize);
-            count_xor(x, count(nodes, b as usize))
+            x + count(nodes, b as usize)
         }
         Node::And(a, b) => {
-            let x = count(nodes, a as usize);
-            count_and(x, count(nodes, b as usize))
+            let mut made = 0;
+            if is_built(nodes, a as usize) {
+                made = ONE_LINE + count(nodes, a as usize);
+            }
+            if is_built(nodes, b as usize) {
+                made = made + (ONE_LINE + count(nodes, b as usize));
+            }
+            count_and(made)
         }
     }
 }
@@ -101,13 +84,15 @@ fn larger(a: usize, b: usize) -> usize
 }
 
 // The needs with one output's share more: the gates that build it, and those undone.
-fn add_share(needs: Needs, x: TreeCounts) -> Needs
-    requires { ⌜ Few x × (needs .gates ≤ mostCounted) ⌝ }
-    ensures { λ r. ⌜ r ≡ record { gates = needs .gates + (x .gates + x .undone); lines = max (needs .lines) (x .lines) } ⌝ }
+fn add_share(needs: Needs, x: usize) -> Needs
+    requires { ⌜ needs .gates ≤ mostCounted ⌝ }
+    ensures { λ r. ⌜ r ≡ record { gates = needs .gates + (x % countNumbers + x / countNumbers % countNumbers); lines = max (needs .lines) (x / countNumbers / countNumbers) } ⌝ }
 {
+    let gates = x % COUNT_NUMBERS;
+    let undone = x / COUNT_NUMBERS % COUNT_NUMBERS;
     Needs {
-        gates: needs.gates + (x.gates + x.undone),
-        lines: larger(needs.lines, x.lines),
+        gates: needs.gates + (gates + undone),
+        lines: larger(needs.lines, x / COUNT_NUMBERS / COUNT_NUMBERS),
     }
 }
 

@@ -6,10 +6,10 @@ use run::Ran;
 // The target's line, behind three inputs.
 const TARGET: usize = 3;
 
-// The first work line.
+// The work line.
 const WORK: usize = 4;
 
-// Writes a word and the lines: inputs, target and work lines.
+// Writes a word and the lines: inputs, target and work line.
 fn write_lines(word: &[u8], lines: &[u8]) {
     io::write_all(1, word);
     let mut i = 0;
@@ -49,20 +49,20 @@ fn run_from(lines: &mut [u8]) {
         \x02\0\0\0\0\0\x02\0\x01\0\0\0\x05\0\0\0\x01\0\x02\0\x02\0\0\0\x05\0\x02\0\x03\0\
         \x04\0";
     let mut sizes = [0u16; 5];
-    let mut area = [0u8; 100];
+    let mut area = [0u8; 52];
     write_lines(b"before ", lines);
     write_answer(compile_and_run(file, 1024, &mut sizes, &mut area, lines));
     write_lines(b"after  ", lines);
 }
 
 fn main() {
-    // The work lines start at zero: the target gets the AND.
-    run_from(&mut [1, 1, 1, 0, 0, 0, 0, 0]);
-    run_from(&mut [1, 1, 1, 1, 0, 0, 0, 0]);
-    run_from(&mut [1, 0, 1, 1, 0, 0, 0, 0]);
-    // They do not: the target gets something else, but they end as they started.
-    run_from(&mut [1, 1, 1, 0, 0, 1, 0, 0]);
-    run_from(&mut [0, 0, 0, 0, 1, 0, 0, 1]);
+    // The work line starts at zero: the target gets the AND.
+    run_from(&mut [1, 1, 1, 0, 0]);
+    run_from(&mut [1, 1, 1, 1, 0]);
+    run_from(&mut [1, 0, 1, 1, 0]);
+    // It does not: the target gets something else, but it ends as it started.
+    run_from(&mut [1, 1, 1, 0, 1]);
+    run_from(&mut [0, 0, 1, 0, 1]);
     // The last line is missing.
-    run_from(&mut [1, 1, 1, 0, 0, 0, 0]);
+    run_from(&mut [1, 1, 1, 0]);
 }

@@ -30,7 +30,7 @@ entry-back : (list : List ℕ) (at : ℕ) (e : Entry) → ((j : ℕ) → j < 8 �
 unfolding numbersOf
 entry-back list at e h =
     let first : getD list at 0 ≡ e .gates .built = rw add-zero at (h 0 (omega arith)) in
-    rw (first, h 1 (omega arith), h 2 (omega arith), h 3 (omega arith), h 4 (omega arith)) refl
+    rw (first, h 1 (omega arith), h 2 (omega arith), h 3 (omega arith), h 4 (omega arith), h 5 (omega arith)) refl
 
 -- so it is in a list that starts with the entries of trees
 module _ (ts : List Expr) (list rest : List ℕ) (p : list ≡ flatMap treeNumbers ts ++ rest) (a : ℕ) (h : a < length ts) where
@@ -61,17 +61,17 @@ module _ {list : List ℕ} {node : Node} (k : OperandsListed list node) where
     operand-small : {x : Entry} → x ≡ entryFrom list (8 * a) → SmallEntry x
     operand-small p = small (getD (k .trees) a ZERO) (operand-is (k .trees) (k .listed) p)
 
-  pub next-zero : node ≡ Zero → {r : Entry} → r ≡ leafEntry 0 → NextOf treeNumbers node list (numbersOf r)
+  pub next-zero : node ≡ Zero → {r : Entry} → r ≡ leafEntry 0 0 → NextOf treeNumbers node list (numbersOf r)
   unfolding treeOf
   next-zero n e ts l = rw n (ap numbersOf (e ∙ entry-zero))
 
-  pub next-one : node ≡ One → {r : Entry} → r ≡ leafEntry 1 → NextOf treeNumbers node list (numbersOf r)
+  pub next-one : node ≡ One → {r : Entry} → r ≡ leafEntry 1 0 → NextOf treeNumbers node list (numbersOf r)
   unfolding treeOf
   next-one n e ts l = rw n (ap numbersOf (e ∙ entry-one))
 
-  pub next-input : (j : ℕ) → node ≡ Input j → {r : Entry} → r ≡ leafEntry 1 → NextOf treeNumbers node list (numbersOf r)
+  pub next-input : {j : ℕ} → node ≡ Input j → {r : Entry} → r ≡ leafEntry 1 (1 + j) → NextOf treeNumbers node list (numbersOf r)
   unfolding treeOf
-  next-input j n e ts l = rw n (ap numbersOf (e ∙ entry-input j))
+  next-input {j} n e ts l = rw n (ap numbersOf (e ∙ entry-input j))
 
   module _ {a : ℕ} (n : node ≡ Not a) where
     low : a < length (k .trees)

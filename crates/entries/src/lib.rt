@@ -32,10 +32,11 @@ pub fn get_entry(counts: &[u64], at: usize) -> Entry
             undone: counts[at + 3],
         },
         lines: counts[at + 4],
+        input: counts[at + 5],
     }
 }
 
-// Stores an entry from index at on; its last three numbers are 0.
+// Stores an entry from index at on; its last two numbers are 0.
 fn put_entry(counts: &mut [u64], at: usize, e: Entry)
     requires { ⌜ at + 8 ≤ length (now counts) ⌝ }
     ensures { λ _. ⌜ now (counts .exit) ≡ sets (now (counts .entry)) at (numbersOf e) ⌝ }
@@ -45,7 +46,7 @@ fn put_entry(counts: &mut [u64], at: usize, e: Entry)
     counts[at + 2] = e.toffolis.built;
     counts[at + 3] = e.toffolis.undone;
     counts[at + 4] = e.lines;
-    counts[at + 5] = 0;
+    counts[at + 5] = e.input;
     counts[at + 6] = 0;
     counts[at + 7] = 0;
 }
@@ -56,9 +57,9 @@ fn next_entry(node: Node, counts: &[u64]) -> Entry
     ensures { λ r. ⌜ NextOf treeNumbers node (now (counts .entry)) (numbersOf r) ⌝ }
 {
     match node {
-        Node::Zero => leaf_entry(0),
-        Node::One => leaf_entry(1),
-        Node::Input(_) => leaf_entry(1),
+        Node::Zero => leaf_entry(0, 0),
+        Node::One => leaf_entry(1, 0),
+        Node::Input(j) => leaf_entry(1, 1 + (j as u64)),
         Node::Not(a) => not_entry(get_entry(counts, 8 * (a as usize))),
         Node::Xor(a, b) => {
             let x = get_entry(counts, 8 * (a as usize));

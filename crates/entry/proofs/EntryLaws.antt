@@ -1,27 +1,113 @@
--- Laws of an entry of the count list: it is made of the operands' entries, and its numbers are small. Assumes nothing.
-use Prim.Native.Nat.{ℕ, _+_}
+-- Laws of an entry of the count list: it is made of the operands' entries, and its counts are small. Assumes nothing.
+use Prim.Native.Nat.{ℕ, zero, suc, _+_, _≤_}
 use native.Mathlib.Omega.{arith}
-use mathlib.Core.Path.{_≡_, refl, ap, _∙_}
+use native.Mathlib.Numerals.{one-add}
+use mathlib.Core.Path.{_≡_, refl, sym, ap, ap₂, _∙_}
+use mathlib.Core.Bool.{Bool, true, false, cond}
+use mathlib.Core.Logic.{_≢_}
+use mathlib.Core.Option.{Option, none, some}
+use borrow.Author.Tests.{eq-eqb, ne-eqb}
 use Rattle.wire.specs.Limits.{mostQuoted}
 use Rattle.wire.specs.Shown.{shown}
-use Rattle.wire.proofs.ShownLaws.{shown-few, shown-both, shown-sum, shown-more}
+use Rattle.wire.proofs.ShownLaws.{shown-few, shown-both, shown-more}
 use Rattle.node.specs.Exprs.{Expr, ZERO, ONE, INPUT, NOT, XOR, AND}
-use Rattle.construction.specs.Steps.{builtCount, undoneCount}
+use Rattle.construction.specs.Construction.{inputOf}
+use Rattle.construction.specs.Steps.{operandCount, sameInput, andCount, builtCount, undoneCount}
 use Rattle.construction.specs.Theorems.{treeLines}
-use Rattle.construction.proofs.Numbers.{held, most}
+use Rattle.construction.proofs.CountLaws.{operand-few, and-one}
+use Rattle.construction.proofs.Numbers.{operandLines, held, most}
 use Rattle.construction.proofs.PoolLaws.{tree-lines}
 use Rattle.entry.specs.declared.Tally.{Tally}
 use Rattle.entry.specs.declared.Entry.{Entry}
-use Rattle.entry.specs.Entries.{tallyOf, leafEntry, entryOf, SmallTally, SmallEntry}
+use Rattle.entry.specs.declared.OperandCounts.{OperandCounts}
+use Rattle.entry.specs.Entries.{tallyOf, inputNumber, inputIn, leafEntry, operandFrom, entryOf, SmallTally, SmallEntry}
 
 tally-small : (c : ℕ) (e : Expr) → SmallTally (tallyOf c e)
 unfolding tallyOf
 tally-small c e = record { built-few = shown-few mostQuoted (builtCount c e); undone-few = shown-few mostQuoted (undoneCount c e) }
 
--- the numbers of an entry are small
+-- the counts of an entry are small
 pub small : (e : Expr) {x : Entry} → x ≡ entryOf e → SmallEntry x
 unfolding entryOf
 small e p = rw p (record { gates-small = tally-small 1 e; toffolis-small = tally-small 0 e; lines-few = shown-few mostQuoted (treeLines e 0 1) })
+
+-- the number of an input says that input
+input-back : (q : Option ℕ) → inputIn (inputNumber q) ≡ q
+unfolding inputNumber inputIn
+input-back none = refl
+input-back (some j) = rw one-add refl
+
+-- what an operand adds, by what its entry says of an input
+none-added : (n k : ℕ) → n ≢ 0 → operandCount (inputIn n) k ≡ 0
+unfolding inputIn operandCount
+none-added zero k h = absurd (h refl)
+none-added (suc j) k h = refl
+
+pub operand-input : (x : Entry) → x .input ≢ 0 → record { gates = 0; toffolis = 0; lines = 0 } ≡ operandFrom x
+operand-input x h = rw (none-added (x .input) (x .gates .built) h, none-added (x .input) (x .toffolis .built) h, none-added (x .input) (1 + x .lines) h) refl
+
+pub operand-built : (x : Entry) → x .input ≡ 0 → record { gates = x .gates .built; toffolis = x .toffolis .built; lines = 1 + x .lines } ≡ operandFrom x
+unfolding inputIn operandCount
+operand-built x e = rw e refl
+
+-- what the gate of an AND counts, by what both entries say
+pub toffoli-built : (m n : ℕ) → m ≡ 0 → andCount 0 (inputIn m) (inputIn n) ≡ 1
+unfolding inputIn andCount sameInput
+toffoli-built m n e = rw e refl
+
+pub toffoli-none : (m n : ℕ) → m ≢ 0 → m ≡ n → andCount 0 (inputIn m) (inputIn n) ≡ 0
+unfolding inputIn andCount sameInput
+toffoli-none zero n h e = absurd (h refl)
+toffoli-none (suc i) n h e = rw (← e, eq-eqb i i refl) refl
+
+pub toffoli-other : (m n : ℕ) → m ≢ n → andCount 0 (inputIn m) (inputIn n) ≡ 1
+unfolding inputIn andCount sameInput
+toffoli-other zero n h = refl
+toffoli-other (suc i) zero h = refl
+toffoli-other (suc i) (suc j) h = rw (ne-eqb i j (λ e. h (ap suc e))) refl
+
+-- what an operand adds is small
+pub record SmallOperand (o : OperandCounts) : Type 0 where
+  pub gates-few : o .gates ≤ mostQuoted + 1
+  pub toffolis-few : o .toffolis ≤ mostQuoted + 1
+  pub lines-few : o .lines ≤ mostQuoted + 2
+
+pub added-small : {x : Entry} {o : OperandCounts} → SmallEntry x → o ≡ operandFrom x → SmallOperand o
+added-small {x} s e =
+    let q : Option ℕ = inputIn (x .input) in
+    rw e
+    (record {
+      gates-few = omega (arith, operand-few q (x .gates .built));
+      toffolis-few = omega (arith, operand-few q (x .toffolis .built));
+      lines-few = omega (arith, operand-few q (1 + x .lines));
+    })
+
+cond-few : (b : Bool) → cond b 0 1 ≤ 1
+cond-few true = omega arith
+cond-few false = omega arith
+
+pub toffoli-few : (q r : Option ℕ) → andCount 0 q r ≤ 1
+unfolding andCount
+toffoli-few q r = cond-few (sameInput q r)
+
+-- where numbers are shown alike, so are their sums
+sum-alike : (a b k l : ℕ) → shown mostQuoted a ≡ shown mostQuoted k → shown mostQuoted b ≡ shown mostQuoted l → shown mostQuoted (a + b) ≡ shown mostQuoted (k + l)
+sum-alike a b k l p q = sym (shown-both mostQuoted a b) ∙ ap₂ (λ (m n : ℕ). shown mostQuoted (m + n)) p q ∙ shown-both mostQuoted k l
+
+-- what an operand adds is shown alike, whether it goes by a number or by how that is shown
+made-alike : (q : Option ℕ) (k : ℕ) → shown mostQuoted (operandCount q (shown mostQuoted k)) ≡ shown mostQuoted (operandCount q k)
+unfolding operandCount shown
+made-alike (some j) k = refl
+made-alike none k = omega arith
+
+lines-alike : (q : Option ℕ) (k : ℕ) → shown mostQuoted (operandCount q (1 + shown mostQuoted k)) ≡ shown mostQuoted (operandLines q k)
+unfolding operandCount operandLines
+lines-alike (some j) k = refl
+lines-alike none k = shown-more mostQuoted 1 k
+
+tally-made : (c : ℕ) (q : Option ℕ) (e : Expr) {x : Tally} → x ≡ tallyOf c e → shown mostQuoted (operandCount q (x .built)) ≡ shown mostQuoted (operandCount q (builtCount c e))
+unfolding tallyOf
+tally-made c q e p = rw p (made-alike q (builtCount c e))
 
 -- tallies of operands make a node's
 module _ (c : ℕ) {x : Tally} (a : Expr) (p : x ≡ tallyOf c a) where
@@ -34,29 +120,32 @@ module _ (c : ℕ) {x : Tally} (a : Expr) (p : x ≡ tallyOf c a) where
     unfolding tallyOf builtCount undoneCount
     tally-xor = rw (p, q, shown-both mostQuoted (builtCount c a) (builtCount c b), shown-both mostQuoted (undoneCount c a) (undoneCount c b)) refl
 
-    tally-and : _≡_ {A = Tally} (record { built = shown mostQuoted (1 + x .built + y .built); undone = shown mostQuoted (x .built + y .built) }) (tallyOf c (AND a b))
-    unfolding tallyOf builtCount undoneCount
-    tally-and =
-        let last : 1 + builtCount c a + builtCount c b ≡ builtCount c a + builtCount c b + 1 = omega arith in
-        rw (p, q, shown-sum mostQuoted 1 (builtCount c a) (builtCount c b), shown-both mostQuoted (builtCount c a) (builtCount c b), last) refl
+    tally-and : {g k l : ℕ} → g ≡ andCount c (inputOf a) (inputOf b) → k ≡ operandCount (inputOf a) (x .built) → l ≡ operandCount (inputOf b) (y .built)
+        → _≡_ {A = Tally} (record { built = shown mostQuoted (g + k + l); undone = shown mostQuoted (k + l) }) (tallyOf c (AND a b))
+    unfolding tallyOf builtCount undoneCount shown
+    tally-and {g} {k} {l} eg ek el =
+        let both : shown mostQuoted (k + l) ≡ shown mostQuoted (undoneCount c (AND a b)) = rw (ek, el) (sum-alike _ _ _ _ (tally-made c (inputOf a) a p) (tally-made c (inputOf b) b q)) in
+        let all : shown mostQuoted (g + k + l) ≡ shown mostQuoted (builtCount c (AND a b)) = omega arith in
+        ap₂ (λ (m n : ℕ). record { built = m; undone = n }) all both
 
 -- an entry from its parts
-whole : (e : Expr) {g t : Tally} {l : ℕ} → g ≡ tallyOf 1 e → t ≡ tallyOf 0 e → l ≡ shown mostQuoted (most e) → record { gates = g; toffolis = t; lines = l } ≡ entryOf e
+whole : (e : Expr) {g t : Tally} {l i : ℕ} → g ≡ tallyOf 1 e → t ≡ tallyOf 0 e → l ≡ shown mostQuoted (most e) → i ≡ inputNumber (inputOf e)
+    → record { gates = g; toffolis = t; lines = l; input = i } ≡ entryOf e
 unfolding entryOf
-whole e g t l = rw (g, t, l, tree-lines e 0 1) refl
+whole e g t l i = rw (g, t, l, i, tree-lines e 0 1) refl
 
 -- the leaves have one gate or none, and take no line
-pub entry-zero : leafEntry 0 ≡ entryOf ZERO
-unfolding tallyOf builtCount undoneCount held most shown
-entry-zero = whole ZERO refl refl refl
+pub entry-zero : leafEntry 0 0 ≡ entryOf ZERO
+unfolding tallyOf builtCount undoneCount held most shown inputOf inputNumber
+entry-zero = whole ZERO refl refl refl refl
 
-pub entry-one : leafEntry 1 ≡ entryOf ONE
-unfolding tallyOf builtCount undoneCount held most shown
-entry-one = whole ONE refl refl refl
+pub entry-one : leafEntry 1 0 ≡ entryOf ONE
+unfolding tallyOf builtCount undoneCount held most shown inputOf inputNumber
+entry-one = whole ONE refl refl refl refl
 
-pub entry-input : (j : ℕ) → leafEntry 1 ≡ entryOf (INPUT j)
-unfolding tallyOf builtCount undoneCount held most shown
-entry-input j = whole (INPUT j) refl refl refl
+pub entry-input : (j : ℕ) → leafEntry 1 (1 + j) ≡ entryOf (INPUT j)
+unfolding tallyOf builtCount undoneCount held most shown inputOf inputNumber
+entry-input j = whole (INPUT j) refl refl refl refl
 
 -- an entry's parts
 module _ {x : Entry} (e : Expr) (p : x ≡ entryOf e) where
@@ -72,36 +161,48 @@ module _ {x : Entry} (e : Expr) (p : x ≡ entryOf e) where
   unfolding entryOf
   lines = ap (λ (y : Entry). y .lines) p ∙ ap (shown mostQuoted) (tree-lines e 0 1)
 
+  input : inputIn (x .input) ≡ inputOf e
+  unfolding entryOf
+  input = ap (λ (y : Entry). inputIn (y .input)) p ∙ input-back (inputOf e)
+
+  -- what it adds as an operand goes by its tree
+  made : {o : OperandCounts} → o ≡ operandFrom x
+      → o ≡ record { gates = operandCount (inputOf e) (x .gates .built); toffolis = operandCount (inputOf e) (x .toffolis .built); lines = operandCount (inputOf e) (1 + x .lines) }
+  made q = rw input at q
+
 -- entries of operands make a node's
 pub entry-not : {x : Entry} (a : Expr) → x ≡ entryOf a → {g t : Tally}
     → g ≡ record { built = shown mostQuoted (1 + x .gates .built); undone = x .gates .undone }
     → t ≡ record { built = shown mostQuoted (0 + x .toffolis .built); undone = x .toffolis .undone }
-    → record { gates = g; toffolis = t; lines = x .lines } ≡ entryOf (NOT a)
-unfolding most held
-entry-not a p g t = whole (NOT a) (g ∙ tally-not 1 a (gates a p)) (t ∙ tally-not 0 a (toffolis a p)) (lines a p)
+    → record { gates = g; toffolis = t; lines = x .lines; input = 0 } ≡ entryOf (NOT a)
+unfolding most held inputOf inputNumber
+entry-not a p g t = whole (NOT a) (g ∙ tally-not 1 a (gates a p)) (t ∙ tally-not 0 a (toffolis a p)) (lines a p) refl
 
 module _ {x y : Entry} (a b : Expr) (p : x ≡ entryOf a) (q : y ≡ entryOf b) where
   pub entry-xor : {g t : Tally} {l : ℕ}
       → g ≡ record { built = shown mostQuoted (x .gates .built + y .gates .built); undone = shown mostQuoted (x .gates .undone + y .gates .undone) }
       → t ≡ record { built = shown mostQuoted (x .toffolis .built + y .toffolis .built); undone = shown mostQuoted (x .toffolis .undone + y .toffolis .undone) }
       → l ≡ shown mostQuoted (x .lines + y .lines)
-      → record { gates = g; toffolis = t; lines = l } ≡ entryOf (XOR a b)
-  unfolding most held
+      → record { gates = g; toffolis = t; lines = l; input = 0 } ≡ entryOf (XOR a b)
+  unfolding most held inputOf inputNumber
   entry-xor g t l =
       whole (XOR a b)
       (g ∙ tally-xor 1 a (gates a p) b (gates b q))
       (t ∙ tally-xor 0 a (toffolis a p) b (toffolis b q))
       (l ∙ rw (lines a p, lines b q) (shown-both mostQuoted (most a) (most b)))
+      refl
 
-  pub entry-and : {g t : Tally} {l : ℕ}
-      → g ≡ record { built = shown mostQuoted (1 + x .gates .built + y .gates .built); undone = shown mostQuoted (x .gates .built + y .gates .built) }
-      → t ≡ record { built = shown mostQuoted (1 + x .toffolis .built + y .toffolis .built); undone = shown mostQuoted (x .toffolis .built + y .toffolis .built) }
-      → l ≡ shown mostQuoted (2 + x .lines + y .lines)
-      → record { gates = g; toffolis = t; lines = l } ≡ entryOf (AND a b)
-  unfolding most held
-  entry-and g t l =
-      let two : 2 + most a + most b ≡ most (AND a b) = omega arith in
+  pub entry-and : {o u : OperandCounts} → o ≡ operandFrom x → u ≡ operandFrom y → {k : ℕ} → k ≡ andCount 0 (inputIn (x .input)) (inputIn (y .input)) → {g t : Tally} {l : ℕ}
+      → g ≡ record { built = shown mostQuoted (1 + o .gates + u .gates); undone = shown mostQuoted (o .gates + u .gates) }
+      → t ≡ record { built = shown mostQuoted (k + o .toffolis + u .toffolis); undone = shown mostQuoted (o .toffolis + u .toffolis) }
+      → l ≡ shown mostQuoted (o .lines + u .lines)
+      → record { gates = g; toffolis = t; lines = l; input = 0 } ≡ entryOf (AND a b)
+  unfolding most held inputOf inputNumber
+  entry-and eo eu ek g t l =
+      let first = made a p eo in
+      let second = made b q eu in
       whole (AND a b)
-      (g ∙ tally-and 1 a (gates a p) b (gates b q))
-      (t ∙ tally-and 0 a (toffolis a p) b (toffolis b q))
-      (l ∙ rw (lines a p, lines b q) (shown-sum mostQuoted 2 (most a) (most b)) ∙ ap (shown mostQuoted) two)
+      (g ∙ tally-and 1 a (gates a p) b (gates b q) (sym (and-one (inputOf a) (inputOf b))) (ap (λ (v : OperandCounts). v .gates) first) (ap (λ (v : OperandCounts). v .gates) second))
+      (t ∙ tally-and 0 a (toffolis a p) b (toffolis b q) (rw (input a p, input b q) at ek) (ap (λ (v : OperandCounts). v .toffolis) first) (ap (λ (v : OperandCounts). v .toffolis) second))
+      (l ∙ rw (first, second, lines a p, lines b q) (sum-alike _ _ _ _ (lines-alike (inputOf a) (most a)) (lines-alike (inputOf b) (most b))))
+      refl

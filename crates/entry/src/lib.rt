@@ -1,12 +1,13 @@
-// An entry of the count list: the numbers of a node's tree, made of those of its operands. Each is
-// shown as 1,000,001 where it is above 1,000,000.
+// An entry of the count list: the numbers of a node's tree, made of those of its operands. Each count
+// is shown as 1,000,001 where it is above 1,000,000.
 use wire::limits::MOST_QUOTED;
 ghost use mathlib.Core.Path.{_≡_};
 ghost use Prim.Native.Nat.{_+_, _≤_};
 ghost use Rattle.wire.specs.Limits.{mostQuoted};
 ghost use Rattle.wire.specs.Shown.{shown};
 ghost use Rattle.node.specs.Exprs.{Expr, NOT, XOR, AND};
-ghost use Rattle.entry.specs.Entries.{SmallTally, SmallEntry, leafEntry, entryOf};
+ghost use Rattle.construction.specs.Steps.{andCount};
+ghost use Rattle.entry.specs.Entries.{inputIn, operandFrom, SmallTally, SmallEntry, leafEntry, entryOf};
 
 // The gates that build a tree, or the Toffolis among them, and how many of these a share undoes:
 // those that are not on the tree's own line. Both grow with the operands' numbers, so that sums of
@@ -18,10 +19,20 @@ pub struct Tally {
 
 // What is counted of a tree: the gates and the Toffolis among them, and the most work lines that it
 // holds together. Nothing is freed before a share is over, so it still holds them when it is built.
+// input is 1 more than the number of the input that the tree is, and 0 where it is none: an AND has to
+// know that of its operands.
 pub struct Entry {
     pub gates: Tally,
     pub toffolis: Tally,
     pub lines: u64,
+    pub input: u64,
+}
+
+// What an operand adds to its AND: the gates that make it, the Toffolis among them, and its lines.
+struct OperandCounts {
+    gates: u64,
+    toffolis: u64,
+    lines: u64,
 }
 
 // A number as it is shown.
@@ -56,22 +67,56 @@ fn tally_xor(x: Tally, y: Tally) -> Tally
     }
 }
 
-// The tally of AND: each operand has a line of its own, and all of it is undone; one Toffoli more
-// goes to the target.
-fn tally_and(x: Tally, y: Tally) -> Tally
-    requires { ⌜ SmallTally x × SmallTally y ⌝ }
-    ensures { λ r. ⌜ r ≡ record { built = shown mostQuoted (1 + x .built + y .built); undone = shown mostQuoted (x .built + y .built) } ⌝ }
+// The tally of AND, where x and y make its operands: all of these are undone. One gate more, which
+// counts c, goes to the target.
+fn tally_and(c: u64, x: u64, y: u64) -> Tally
+    requires { ⌜ (c ≤ 1) × (x ≤ mostQuoted + 1) × (y ≤ mostQuoted + 1) ⌝ }
+    ensures { λ r. ⌜ r ≡ record { built = shown mostQuoted (c + x + y); undone = shown mostQuoted (x + y) } ⌝ }
 {
     Tally {
-        built: capped(1 + x.built + y.built),
-        undone: capped(x.built + y.built),
+        built: capped(c + x + y),
+        undone: capped(x + y),
     }
 }
 
-// The entry of a leaf: it has one gate or none, which is no Toffoli and is not undone, and takes no
-// line.
-pub fn leaf_entry(gates: u64) -> Entry
-    ensures { λ r. ⌜ r ≡ leafEntry gates ⌝ }
+// What an operand adds: nothing where it is an input, which is its own control; any other is built on
+// a line of its own.
+fn as_operand(x: Entry) -> OperandCounts
+    requires { ⌜ SmallEntry x ⌝ }
+    ensures { λ r. ⌜ r ≡ operandFrom x ⌝ }
+{
+    if x.input != 0 {
+        return OperandCounts {
+            gates: 0,
+            toffolis: 0,
+            lines: 0,
+        };
+    }
+    OperandCounts {
+        gates: x.gates.built,
+        toffolis: x.toffolis.built,
+        lines: 1 + x.lines,
+    }
+}
+
+// What the gate of an AND counts among the Toffolis, x and y being the input fields of its operands'
+// entries: it is one, unless both are the same input, which gives a CNOT.
+fn gate_toffolis(x: u64, y: u64) -> u64
+    ensures { λ r. ⌜ r ≡ andCount 0 (inputIn x) (inputIn y) ⌝ }
+{
+    if x == 0 {
+        return 1;
+    }
+    if x == y {
+        return 0;
+    }
+    1
+}
+
+// The entry of a constant or an input: it has one gate or none, which is no Toffoli and is not undone,
+// and takes no line.
+pub fn leaf_entry(gates: u64, input: u64) -> Entry
+    ensures { λ r. ⌜ r ≡ leafEntry gates input ⌝ }
 {
     Entry {
         gates: Tally {
@@ -83,6 +128,7 @@ pub fn leaf_entry(gates: u64) -> Entry
             undone: 0,
         },
         lines: 0,
+        input,
     }
 }
 
@@ -97,6 +143,7 @@ pub fn not_entry(x: Entry) -> Entry
         gates: tally_not(1, gates),
         toffolis: tally_not(0, toffolis),
         lines: x.lines,
+        input: 0,
     }
 }
 
@@ -113,21 +160,22 @@ pub fn xor_entry(x: Entry, y: Entry) -> Entry
         gates: tally_xor(first, second),
         toffolis: tally_xor(first_toffolis, second_toffolis),
         lines: capped(x.lines + y.lines),
+        input: 0,
     }
 }
 
-// The entry of AND: each operand first takes a line of its own.
+// The entry of AND: the second operand is made beside the lines that the first holds.
 pub fn and_entry(x: Entry, y: Entry) -> Entry
     requires { ⌜ SmallEntry x × SmallEntry y ⌝ }
     ensures { λ r. ⌜ ((a b : Expr) → x ≡ entryOf a → y ≡ entryOf b → r ≡ entryOf (AND a b)) ⌝ }
 {
-    let first = x.gates;
-    let second = y.gates;
-    let first_toffolis = x.toffolis;
-    let second_toffolis = y.toffolis;
+    let first = as_operand(x);
+    let second = as_operand(y);
+    let toffolis = gate_toffolis(x.input, y.input);
     Entry {
-        gates: tally_and(first, second),
-        toffolis: tally_and(first_toffolis, second_toffolis),
-        lines: capped(2 + x.lines + y.lines),
+        gates: tally_and(1, first.gates, second.gates),
+        toffolis: tally_and(toffolis, first.toffolis, second.toffolis),
+        lines: capped(first.lines + second.lines),
+        input: 0,
     }
 }

@@ -24,7 +24,7 @@ use Rattle.program.specs.Format.{programFile}
 use Rattle.program.specs.Reading.{lengthsFit, outputFits, programOf, readBodies, readProgram}
 use Rattle.node.specs.Trees.{treeOf, treesFrom, trees}
 use Rattle.construction.specs.Pools.{isAmong, allFree, lowestFree, takeLine, freeAll}
-use Rattle.construction.specs.Construction.{build, share, shares, allShares, linesNeeded}
+use Rattle.construction.specs.Construction.{inputOf, operand, andGate, build, share, shares, allShares, linesNeeded}
 use Rattle.construction.specs.Construction as construction
 use Rattle.construction.specs.Counting.{gatesShown}
 use Rattle.sizing.specs.Sizing.{nodeSizes}
@@ -36,7 +36,7 @@ use Rattle.examples.specs.Examples.{wholeFile, norFile, threeFile, xorFi
 use Rattle.examples.proofs.RowLaws.{Known, lines-refused, area-refused, written, lists-refused, row}
 
 pub examples : Examples
-unfolding programFile nodeBytes readProgram readBodies tableFits entriesFit entriesFrom lengthsFit arityFits nodeFits operandsFit outputFits programOf nodeAt lowestFrom size nodeSizes shown programCircuit outputTrees outputTree tabulateFrom trees treesFrom treeOf construction.circuitGates allShares shares share build isAmong allFree lowestFree takeLine freeAll linesNeeded gatesShown uncompute without target circuitFile openingBytes contentsBytes entriesBytes gatesBytes gateBytes runForwards circuit.readWithLines circuit.readCircuit circuit.readHead circuit.headIn circuit.circuitOf circuit.lengthsFit circuit.rangesFit gateFits fieldsFit wellFormed lowerFirst linesFit gateAt bitsFit run step addend xorBit listing firstLine gateLine refusedLine line field decimal digitCount flatMap
+unfolding programFile nodeBytes readProgram readBodies tableFits entriesFit entriesFrom lengthsFit arityFits nodeFits operandsFit outputFits programOf nodeAt lowestFrom size nodeSizes shown programCircuit outputTrees outputTree tabulateFrom trees treesFrom treeOf construction.circuitGates allShares shares share build inputOf operand andGate isAmong allFree lowestFree takeLine freeAll linesNeeded gatesShown uncompute without target circuitFile openingBytes contentsBytes entriesBytes gatesBytes gateBytes runForwards circuit.readWithLines circuit.readCircuit circuit.readHead circuit.headIn circuit.circuitOf circuit.lengthsFit circuit.rangesFit gateFits fieldsFit wellFormed lowerFirst linesFit gateAt bitsFit run step addend xorBit listing firstLine gateLine refusedLine line field decimal digitCount flatMap
 examples =
     let whole : Known wholeFile = record { reads = refl; small = refl; few = omega arith } in
     let nor : Known norFile = record { reads = refl; small = refl; few = omega arith } in
@@ -49,13 +49,13 @@ examples =
       whole-bytes = record { writes = refl; reads = refl };
       wide-bytes = record { writes = refl; reads = refl };
       wide-order = refl;
-      whole-area = λ grant sizes area. area-refused whole grant sizes area 67 (omega arith);
-      whole-grant = λ sizes area. lines-refused whole 1 sizes area (omega arith) (omega arith);
-      whole-refused = lists-refused whole 1 (omega arith) (omega arith) (omega arith);
-      whole-target = λ grant sizes area a b c d. ap (λ (file : List ℕ). runForwards file (1 ∷ 1 ∷ 1 ∷ 0 ∷ 0 ∷ [])) (written whole grant sizes area a b c d);
-      whole-line = λ grant sizes area a b c d. ap (λ (file : List ℕ). runForwards file (1 ∷ 1 ∷ 1 ∷ 1 ∷ 0 ∷ [])) (written whole grant sizes area a b c d);
+      whole-area = λ grant sizes area. area-refused whole grant sizes area 35 (omega arith) (omega arith);
+      whole-target = λ grant sizes area a b c d. ap (λ (file : List ℕ). runForwards file (1 ∷ 1 ∷ 1 ∷ [])) (written whole grant sizes area a b c d);
       nor = row nor _ (omega arith) (omega arith) (leb-true _ (fileLength mostGates) refl) refl refl;
       three = row three _ (omega arith) (omega arith) (leb-true _ (fileLength mostGates) refl) refl refl;
-      three-grant = λ sizes area. lines-refused three 3 sizes area (omega arith) (omega arith);
+      three-grant = λ sizes area. lines-refused three 0 sizes area (omega arith) (omega arith);
+      three-refused = lists-refused three 0 (omega arith) (omega arith) (omega arith);
+      three-target = λ grant sizes area a b c d. ap (λ (file : List ℕ). runForwards file (1 ∷ 1 ∷ 1 ∷ 1 ∷ 0 ∷ [])) (written three grant sizes area a b c d);
+      three-line = λ grant sizes area a b c d. ap (λ (file : List ℕ). runForwards file (1 ∷ 1 ∷ 1 ∷ 1 ∷ 1 ∷ [])) (written three grant sizes area a b c d);
       xor-self = row xor _ (omega arith) (omega arith) (leb-true _ (fileLength mostGates) refl) refl refl;
     }

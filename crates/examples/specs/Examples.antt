@@ -36,20 +36,16 @@ wholeFile =
 
 -- its circuit
 abbrev pub wholeCircuit : Circuit
-wholeCircuit = record { inputs = 2; outputs = 1; work = 2; gates = Cnot 0 3 ∷ Cnot 1 4 ∷ Toffoli 3 4 2 ∷ Cnot 1 4 ∷ Cnot 0 3 ∷ [] }
+wholeCircuit = record { inputs = 2; outputs = 1; work = 0; gates = Toffoli 0 1 2 ∷ [] }
 
--- its circuit's file: the table of contents, the numbers of inputs, outputs and work lines, the gates
+-- its circuit's file: the table of contents, the numbers of inputs, outputs and work lines, the gate
 abbrev pub wholeCircuitFile : List ℕ
 wholeCircuitFile =
     0x02 ∷ 0x00
     ∷ 0x11 ∷ 0x00 ∷ 0x16 ∷ 0x00 ∷ 0x00 ∷ 0x00 ∷ 0x06 ∷ 0x00 ∷ 0x00 ∷ 0x00
-    ∷ 0x12 ∷ 0x00 ∷ 0x1c ∷ 0x00 ∷ 0x00 ∷ 0x00 ∷ 0x28 ∷ 0x00 ∷ 0x00 ∷ 0x00
-    ∷ 0x02 ∷ 0x00 ∷ 0x01 ∷ 0x00 ∷ 0x02 ∷ 0x00
-    ∷ 0x02 ∷ 0x00 ∷ 0x00 ∷ 0x00 ∷ 0x00 ∷ 0x00 ∷ 0x03 ∷ 0x00
-    ∷ 0x02 ∷ 0x00 ∷ 0x01 ∷ 0x00 ∷ 0x00 ∷ 0x00 ∷ 0x04 ∷ 0x00
-    ∷ 0x03 ∷ 0x00 ∷ 0x03 ∷ 0x00 ∷ 0x04 ∷ 0x00 ∷ 0x02 ∷ 0x00
-    ∷ 0x02 ∷ 0x00 ∷ 0x01 ∷ 0x00 ∷ 0x00 ∷ 0x00 ∷ 0x04 ∷ 0x00
-    ∷ 0x02 ∷ 0x00 ∷ 0x00 ∷ 0x00 ∷ 0x00 ∷ 0x00 ∷ 0x03 ∷ 0x00 ∷ []
+    ∷ 0x12 ∷ 0x00 ∷ 0x1c ∷ 0x00 ∷ 0x00 ∷ 0x00 ∷ 0x08 ∷ 0x00 ∷ 0x00 ∷ 0x00
+    ∷ 0x02 ∷ 0x00 ∷ 0x01 ∷ 0x00 ∷ 0x00 ∷ 0x00
+    ∷ 0x03 ∷ 0x00 ∷ 0x00 ∷ 0x00 ∷ 0x01 ∷ 0x00 ∷ 0x02 ∷ 0x00 ∷ []
 
 -- a circuit with a gate of each kind, more than 255 work lines, and no number twice where two could be exchanged; its last gate targets an input, as only a circuit not made by the compiler does
 abbrev pub wideCircuit : Circuit
@@ -89,6 +85,10 @@ threeFile =
     ∷ 2 ∷ 0 ∷ 2 ∷ 0 ∷ 0 ∷ 0
     ∷ 5 ∷ 0 ∷ 2 ∷ 0 ∷ 3 ∷ 0
     ∷ 4 ∷ 0 ∷ []
+
+-- its circuit
+abbrev pub threeCircuit : Circuit
+threeCircuit = record { inputs = 3; outputs = 1; work = 1; gates = Toffoli 0 1 4 ∷ Toffoli 2 4 3 ∷ Toffoli 0 1 4 ∷ [] }
 
 -- the file of XOR of input 0 with itself
 abbrev pub xorFile : List ℕ
@@ -137,49 +137,47 @@ pub record FileBytes (c : Circuit) (bytes : List ℕ) : Type 0 where
   pub writes : circuitFile c ≡ bytes
   pub reads : readCircuit bytes ≡ result c
 
--- the file that compiling the whole case writes, run forwards on start, gives after
-abbrev pub WholeRun : List ℕ → List ℕ → Type 0
-WholeRun start after =
-    (grant : ℕ) (sizes area : List ℕ) → 2 ≤ grant → grant ≤ 1024 → 3 ≤ length sizes → 68 ≤ length area
-    → runForwards (fileWritten (headOf wholeCircuit) (compileOf wholeFile grant sizes area .area)) start ≡ result after
+-- the file that compiling file to circuit c writes, run forwards on start, gives after; the program has k nodes
+abbrev pub RunCase : List ℕ → ℕ → Circuit → List ℕ → List ℕ → Type 0
+RunCase file k c start after =
+    (grant : ℕ) (sizes area : List ℕ) → c .work ≤ grant → grant ≤ 1024 → k ≤ length sizes → length (circuitFile c) ≤ length area
+    → runForwards (fileWritten (headOf c) (compileOf file grant sizes area .area)) start ≡ result after
 
 -- the starred examples: a row for each, which holds whatever the size list and the area held before
 pub record Examples : Type 0 where
-  -- the whole case
+  -- the whole case: one Toffoli and no work line, so that every grant from 0 to 1,024 is enough
   pub whole : CompiledCase wholeFile (record { inputs = 2; nodes = Input 0 ∷ Input 1 ∷ And 0 1 ∷ []; outputs = 2 ∷ [] }) (1 ∷ 1 ∷ 3 ∷ []) wholeCircuit
-      "lines 2 1 2 gates 5\nC 0 3\nC 1 4\nT 3 4 2\nC 1 4\nC 0 3\n"
+      "lines 2 1 0 gates 1\nT 0 1 2\n"
   -- a second program file byte for byte
   pub kinds-bytes : ProgramBytes kindsProgram kindsFile
-  -- the circuit file of the whole case has 68 bytes, and these are they
-  pub whole-length : length (circuitFile wholeCircuit) ≡ 68
+  -- the circuit file of the whole case has 36 bytes, and these are they
+  pub whole-length : length (circuitFile wholeCircuit) ≡ 36
   pub whole-bytes : FileBytes wholeCircuit wholeCircuitFile
   -- a second file byte for byte, with a NOT and w over 255
   pub wide-bytes : FileBytes wideCircuit wideCircuitFile
   -- with the controls of its last gate exchanged it gives 12, place 2
   pub wide-order : readCircuit (take 44 wideCircuitFile ++ (0x03 ∷ 0x00 ∷ 0x03 ∷ 0x01 ∷ 0x00 ∷ 0x01 ∷ 0x02 ∷ 0x00 ∷ [])) ≡ refused 12 2
-  -- an area of 67 gives 11, place 5, and is all zero
-  pub whole-area : (grant : ℕ) (sizes area : List ℕ) → 2 ≤ grant → grant ≤ 1024 → 3 ≤ length sizes → length area ≡ 67
-      → compileOf wholeFile grant sizes area ≡ record { answer = refused 11 5; sizes = 1 ∷ 1 ∷ 3 ∷ drop 3 sizes; area = replicate 67 0 }
-  -- a grant of 1 gives 10, place 2
-  pub whole-grant : (sizes area : List ℕ) → 3 ≤ length sizes
-      → compileOf wholeFile 1 sizes area ≡ record { answer = refused 10 2; sizes = 1 ∷ 1 ∷ 3 ∷ drop 3 sizes; area = area }
-  -- and is listed so
-  pub whole-refused : listingOf wholeFile 1 ≡ ascii "refused 10 2\n"
+  -- an area of 35 gives 11, place 1, and is all zero
+  pub whole-area : (grant : ℕ) (sizes area : List ℕ) → grant ≤ 1024 → 3 ≤ length sizes → length area ≡ 35
+      → compileOf wholeFile grant sizes area ≡ record { answer = refused 11 1; sizes = 1 ∷ 1 ∷ 3 ∷ drop 3 sizes; area = replicate 35 0 }
   -- inputs 1 1, target 1: the target ends 0
-  pub whole-target : WholeRun (1 ∷ 1 ∷ 1 ∷ 0 ∷ 0 ∷ []) (1 ∷ 1 ∷ 0 ∷ 0 ∷ 0 ∷ [])
-  -- with line 3 starting at 1, the target stays 1 and line 3 ends 1
-  pub whole-line : WholeRun (1 ∷ 1 ∷ 1 ∷ 1 ∷ 0 ∷ []) (1 ∷ 1 ∷ 1 ∷ 1 ∷ 0 ∷ [])
+  pub whole-target : RunCase wholeFile 3 wholeCircuit (1 ∷ 1 ∷ 1 ∷ []) (1 ∷ 1 ∷ 0 ∷ [])
   -- NOR as AND of two NOTs: 9 gates, w 2
   pub nor : CompiledCase norFile (record { inputs = 2; nodes = Input 0 ∷ Input 1 ∷ node.Not 0 ∷ node.Not 1 ∷ And 2 3 ∷ []; outputs = 4 ∷ [] }) (1 ∷ 1 ∷ 2 ∷ 2 ∷ 5 ∷ [])
       (record { inputs = 2; outputs = 1; work = 2; gates = gate.Not 3 ∷ Cnot 0 3 ∷ gate.Not 4 ∷ Cnot 1 4 ∷ Toffoli 3 4 2 ∷ Cnot 1 4 ∷ gate.Not 4 ∷ Cnot 0 3 ∷ gate.Not 3 ∷ [] })
       "lines 2 1 2 gates 9\nN 3\nC 0 3\nN 4\nC 1 4\nT 3 4 2\nC 1 4\nN 4\nC 0 3\nN 3\n"
-  -- AND(AND(input 0, input 1), input 2): w 4
-  pub three : CompiledCase threeFile (record { inputs = 3; nodes = Input 0 ∷ Input 1 ∷ And 0 1 ∷ Input 2 ∷ And 2 3 ∷ []; outputs = 4 ∷ [] }) (1 ∷ 1 ∷ 3 ∷ 1 ∷ 5 ∷ [])
-      (record { inputs = 3; outputs = 1; work = 4; gates = Cnot 0 5 ∷ Cnot 1 6 ∷ Toffoli 5 6 4 ∷ Cnot 2 7 ∷ Toffoli 4 7 3 ∷ Cnot 2 7 ∷ Toffoli 5 6 4 ∷ Cnot 1 6 ∷ Cnot 0 5 ∷ [] })
-      "lines 3 1 4 gates 9\nC 0 5\nC 1 6\nT 5 6 4\nC 2 7\nT 4 7 3\nC 2 7\nT 5 6 4\nC 1 6\nC 0 5\n"
-  -- a grant of 3 gives 10, place 4
+  -- AND(AND(input 0, input 1), input 2): T 0 1 4, T 2 4 3, T 0 1 4, w 1
+  pub three : CompiledCase threeFile (record { inputs = 3; nodes = Input 0 ∷ Input 1 ∷ And 0 1 ∷ Input 2 ∷ And 2 3 ∷ []; outputs = 4 ∷ [] }) (1 ∷ 1 ∷ 3 ∷ 1 ∷ 5 ∷ []) threeCircuit
+      "lines 3 1 1 gates 3\nT 0 1 4\nT 2 4 3\nT 0 1 4\n"
+  -- a grant of 0 gives 10, place 1
   pub three-grant : (sizes area : List ℕ) → 5 ≤ length sizes
-      → compileOf threeFile 3 sizes area ≡ record { answer = refused 10 4; sizes = 1 ∷ 1 ∷ 3 ∷ 1 ∷ 5 ∷ drop 5 sizes; area = area }
+      → compileOf threeFile 0 sizes area ≡ record { answer = refused 10 1; sizes = 1 ∷ 1 ∷ 3 ∷ 1 ∷ 5 ∷ drop 5 sizes; area = area }
+  -- and is listed so
+  pub three-refused : listingOf threeFile 0 ≡ ascii "refused 10 1\n"
+  -- inputs 1 1 1, target 1: the target ends 0
+  pub three-target : RunCase threeFile 5 threeCircuit (1 ∷ 1 ∷ 1 ∷ 1 ∷ 0 ∷ []) (1 ∷ 1 ∷ 1 ∷ 0 ∷ 0 ∷ [])
+  -- with line 4 starting at 1, the target stays 1 and line 4 ends 1
+  pub three-line : RunCase threeFile 5 threeCircuit (1 ∷ 1 ∷ 1 ∷ 1 ∷ 1 ∷ []) (1 ∷ 1 ∷ 1 ∷ 1 ∷ 1 ∷ [])
   -- XOR of input 0 with itself: C 0 1 twice
   pub xor-self : CompiledCase xorFile (record { inputs = 1; nodes = Input 0 ∷ Xor 0 0 ∷ []; outputs = 1 ∷ [] }) (1 ∷ 3 ∷ [])
       (record { inputs = 1; outputs = 1; work = 0; gates = Cnot 0 1 ∷ Cnot 0 1 ∷ [] })

@@ -85,7 +85,7 @@ module _ (kind blank a b : ℕ) (e : fieldsFit kind blank a b ≡ true) where
   unfolding fieldsFit
   only-blank = eqb-true blank 0 (both-first (eqb blank 0) (kindFits kind a b) e)
 
-  only-fields : (t : ℕ) → fieldBytes kind a b t ≡ gateBytes (gateOf kind a b t)
+  pub only-fields : (t : ℕ) → fieldBytes kind a b t ≡ gateBytes (gateOf kind a b t)
   unfolding fieldsFit gateBytes
   only-fields t =
       let fit : kindFits kind a b ≡ true = both-second (eqb blank 0) (kindFits kind a b) e in

@@ -8,7 +8,7 @@ ghost use lib.Seq.{sets};
 ghost use Rattle.gate_bytes.specs.GateBytes.{fieldBytes, gateBytes};
 
 // Stores a gate's fields, the first byte at index at.
-fn put_fields(area: &mut [u8], at: usize, kind: u8, first: u16, second: u16, target: u16)
+pub fn put_fields(area: &mut [u8], at: usize, kind: u8, first: u16, second: u16, target: u16)
     requires { ⌜ at + 8 ≤ length (now area) ⌝ }
     ensures { λ _. ⌜ now (area .exit) ≡ sets (now (area .entry)) at (fieldBytes kind first second target) ⌝ }
 {

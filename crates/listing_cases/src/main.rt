@@ -33,6 +33,7 @@ fn examples() {
     list_file(b"nor");
     list_file(b"and_of_three");
     list_file(b"and_of_four");
+    list_file(b"operands");
     list_file(b"xor_with_itself");
     list_file(b"zero");
     list_file(b"one");
@@ -50,7 +51,7 @@ fn sizes() {
 // Programs at the limits of lines, gates, inputs, outputs and nodes.
 fn limits() {
     list_file(b"work_1024");
-    list_file(b"work_1026");
+    list_file(b"work_1025");
     list_file(b"lines_1152");
     list_file(b"gates_8000");
     list_file(b"gates_8001");

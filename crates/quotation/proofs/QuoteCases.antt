@@ -1,4 +1,4 @@
--- Quotes that are computed: three outputs, and the numbers at the limit. Assumes nothing.
+-- Quotes that are computed: three outputs, an input with itself, and the numbers at the limit. Assumes nothing.
 use mathlib.Core.Path.{_≡_, refl}
 use mathlib.Core.List.{[], _∷_, flatMap}
 use Rattle.refusal.specs.Checks.{lowestFrom}
@@ -11,7 +11,7 @@ use Rattle.node.specs.declared.nodes.Node.the-variants.{Input, Not, Xor, And}
 use Rattle.node.specs.Trees.{treeOf, treesFrom, trees}
 use Rattle.program.specs.Programs.{Program, outputTree}
 use Rattle.construction.specs.Pools.{isAmong, allFree, lowestFree, takeLine, freeAll}
-use Rattle.construction.specs.Construction.{build, share}
+use Rattle.construction.specs.Construction.{inputOf, operand, andGate, build, share}
 use Rattle.quotation.specs.Quoting.{outputShare, shareQuote, quotes}
 
 -- outputs: the AND of inputs 0 and 1, its AND with input 2, and 1 XOR input 0 XOR the first
@@ -24,9 +24,14 @@ threeOutputs =
     }
 
 -- the gates, Toffolis and work lines of each share
-pub three-quoted : quotes threeOutputs ≡ 5 ∷ 1 ∷ 2 ∷ 9 ∷ 3 ∷ 4 ∷ 7 ∷ 1 ∷ 2 ∷ []
-unfolding quotes flatMap tabulateFrom shareQuote outputShare outputTree trees treesFrom treeOf share build isAmong allFree lowestFree lowestFrom takeLine freeAll uncompute without target toffoliCount shown
+pub three-quoted : quotes threeOutputs ≡ 1 ∷ 1 ∷ 0 ∷ 3 ∷ 3 ∷ 1 ∷ 3 ∷ 1 ∷ 0 ∷ []
+unfolding quotes flatMap tabulateFrom shareQuote outputShare outputTree trees treesFrom treeOf share build inputOf operand andGate isAmong allFree lowestFree lowestFrom takeLine freeAll uncompute without target toffoliCount shown
 three-quoted = refl
+
+-- the AND of an input with itself has a gate, which is no Toffoli
+pub same-quoted : quotes (record { inputs = 1; nodes = Input 0 ∷ And 0 0 ∷ []; outputs = 1 ∷ [] }) ≡ 1 ∷ 0 ∷ 0 ∷ []
+unfolding quotes flatMap tabulateFrom shareQuote outputShare outputTree trees treesFrom treeOf share build inputOf operand andGate isAmong allFree lowestFree lowestFrom takeLine freeAll uncompute without target toffoliCount shown
+same-quoted = refl
 
 -- 1,000,000 is shown as it is, and every larger number as 1,000,001
 pub at-limit : shown mostQuoted 1000000 ≡ 1000000

@@ -10,7 +10,7 @@ use Rattle.wire.proofs.FillLaws.{Filled, filled-entry, filled-entries}
 use Rattle.wire.proofs.ListLaws.{tabulate-length, tabulate-at}
 use Rattle.wire.proofs.ShownLaws.{shown-both}
 use Rattle.gate.specs.Gates.{toffoliCount}
-use Rattle.node.specs.Exprs.{Expr}
+use Rattle.node.specs.Exprs.{Expr, InputsBelow}
 use Rattle.construction.specs.Pools.{allFree}
 use Rattle.construction.specs.Construction.{share}
 use Rattle.construction.specs.Steps.{builtCount, undoneCount, shareCount}
@@ -22,12 +22,12 @@ use Rattle.entry.specs.Entries.{tallyOf, entryOf}
 use Rattle.quotation.specs.Quoting.{shareQuote}
 use Rattle.quote.specs.Steps.{entryQuote, namedEntry, namedEntries, Quotable}
 
--- what an answer says of a tree's entry is what the quote says of the construction's share
-pub share-quoted : (e : Expr) (t f : ℕ) → t < f → entryQuote (entryOf e) ≡ shareQuote (share e t (allFree f))
+-- what an answer says of a tree's entry is what the quote says of the construction's share, where the inputs are below n and the target and the work lines are not
+pub share-quoted : (n : ℕ) (e : Expr) (t f : ℕ) → InputsBelow n e → n ≤ t → t < f → entryQuote (entryOf e) ≡ shareQuote (share e t (allFree f))
 unfolding entryQuote entryOf tallyOf shareQuote shareCount
-share-quoted e t f h =
+share-quoted n e t f w m h =
     let gates : length (share e t (allFree f) .gates) ≡ shareCount 1 e = ap length (share-gates e t f) ∙ share-length e t f h in
-    let toffolis : toffoliCount (share e t (allFree f) .gates) ≡ shareCount 0 e = ap toffoliCount (share-gates e t f) ∙ share-toffolis e t f h in
+    let toffolis : toffoliCount (share e t (allFree f) .gates) ≡ shareCount 0 e = ap toffoliCount (share-gates e t f) ∙ share-toffolis n e t f w m h in
     let lines : treeLines e 0 1 ≡ share e t (allFree f) .pool .most = tree-lines e 0 1 ∙ sym (share-lines e t f) in
     rw (gates, toffolis, lines, shown-both mostQuoted (builtCount 1 e) (undoneCount 1 e), shown-both mostQuoted (builtCount 0 e) (undoneCount 0 e)) refl
 

@@ -10,14 +10,14 @@ use Rattle.refusal.specs.declared.causes.Refusal.the-variants as cause
 use Rattle.wire.specs.Lists.{tabulate}
 use Rattle.wire.proofs.ListLaws.{flat-length, flat-same}
 use Rattle.contents.specs.Contents.{bodyOf}
-use Rattle.node.specs.Exprs.{ZERO}
+use Rattle.node.specs.Exprs.{ZERO, InputsBelow}
 use Rattle.node.specs.Nodes.{nodesIn}
 use Rattle.node.specs.Trees.{trees}
 use Rattle.node.proofs.TreeLaws.{trees-count}
 use Rattle.program.specs.declared.reader.Head.{Head}
 use Rattle.program.specs.Programs.{outputTree}
 use Rattle.program.specs.Reading.{outputAt, programOf}
-use Rattle.program.proofs.AcceptedLaws.{Read}
+use Rattle.program.proofs.AcceptedLaws.{Read, inputs-is, inputs-below}
 use Rattle.program.proofs.BodyLaws.{body-nodes, body-outputs, names-node, named-tree, head-outputs, head-nodes}
 use Rattle.entry.specs.Entries.{entryOf}
 use Rattle.entry.proofs.EntryLaws.{small}
@@ -56,12 +56,13 @@ module _ (f counts answers : List ℕ) {h : Head} (r : Read f h) where
 
       -- the answer of output k is the quote of its share
       answer-is : (k : ℕ) → k < length (bodyOf f 2) / 2 → entryQuote (namedEntry (bodyOf f 2) list k) ≡ shareQuote (outputShare (programOf f) k)
-      unfolding outputShare
+      unfolding outputShare outputTree
       answer-is k l =
           let n : ℕ = programOf f .inputs in
           let m : ℕ = length (programOf f .outputs) in
+          let below : InputsBelow n (outputTree (programOf f) k) = rw (inputs-is f (r .accepts)) (inputs-below f (r .accepts) (getD (programOf f .outputs) k 0)) in
           ap entryQuote (entry-is k l ∙ ap entryOf (named-tree f (r .accepts) k l))
-          ∙ share-quoted (outputTree (programOf f) k) (n + k) (n + m) (omega (arith, body-outputs f (r .accepts)))
+          ∙ share-quoted n (outputTree (programOf f) k) (n + k) (n + m) below (omega arith) (omega (arith, body-outputs f (r .accepts)))
 
       -- so the answers stored are the quotes
       answers-quoted : {l : List ℕ} → l ≡ flatMap entryQuote (namedEntries (bodyOf f 2) list) ++ drop (3 * (length (bodyOf f 2) / 2)) answers

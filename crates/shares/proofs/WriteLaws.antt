@@ -1,5 +1,5 @@
 -- Laws of writing a share: what it asks for is enough for its two steps, and these leave it. Assumes nothing.
-use Prim.Native.Nat.{ℕ, _+_, _-_, _/_, _≤_}
+use Prim.Native.Nat.{ℕ, _+_, _-_, _/_, _<_, _≤_}
 use native.Mathlib.Omega.{arith}
 use mathlib.Core.Path.{_≡_, sym, ap, ap₂, _∙_}
 use mathlib.Core.List.{List}
@@ -19,11 +19,13 @@ use Rattle.construction.proofs.CountLaws.{share-length}
 use Rattle.construction.proofs.LineLaws.{build-formed}
 use Rattle.construction.proofs.PoolLaws.{share-gates, tree-lines}
 use Rattle.program.specs.Tables.{treeIn}
-use Rattle.areas.specs.AreaGates.{gatesFrom, Stored}
-use Rattle.appending.specs.Reversing.{Reversible}
-use Rattle.construct.specs.Writing.{lineNumbers, tree, Wrote, Room}
+use Rattle.areas.specs.AreaGates.{putGates, gatesFrom, Stored}
+use Rattle.appending.specs.Reversing.{InOrder, Reversible}
+use Rattle.progress.specs.Progress.{lineNumbers, tree, Wrote}
+use Rattle.construct.specs.Writing.{Room}
 use Rattle.areas.proofs.AreaLaws.{put-back, stored-then}
-use Rattle.construct.proofs.BuiltLaws.{by-numbers}
+use Rattle.appending.proofs.CopyLaws.{put-order}
+use Rattle.progress.proofs.ProgressLaws.{by-numbers}
 
 -- building takes no more gates than the share
 build-few : (e : Expr) → builtCount 1 e ≤ shareCount 1 e
@@ -78,12 +80,22 @@ module _ {nodes : List ℕ} {i t k f : ℕ} {area : List ℕ} (r : Room nodes i 
         ∙ put-back lineNumbers (omega arith) area k built (build-formed (r .valid .inputs) (treeIn nodes i) t f lineNumbers share-apart)
         (omega (arith, r .room, share-parts))
 
+    -- they stand in order
+    built-order : (j : ℕ) → j < to → k ≤ j → InOrder area₁ j
+    built-order j h q =
+        let at : k + (j - k) ≡ j = omega arith in
+        let stored : InOrder (putGates area k built) (k + (j - k)) =
+        put-order lineNumbers (omega arith) area k built (build-formed (r .valid .inputs) (treeIn nodes i) t f lineNumbers share-apart)
+        (omega (arith, r .room, share-parts)) (j - k) (omega (arith, built-to)) in
+        rw (by-numbers b .stored .area-to, ← at) stored
+
     -- there is room to write them again, if no more are written than where the target is left out
     pub reverse-room : {out : ℕ} → length (uncompute (eqb out) built) ≤ length (uncompute (eqb t) built) → Reversible area₁ k to to out
     reverse-room few =
         let same : length area₁ ≡ length area = ap (λ (l : List ℕ). length l) (by-numbers b .stored .area-to) ∙ put-length area k built in
         record {
           ordered = omega (arith, built-to);
+          each = built-order;
           before = omega arith;
           room = rw built-back (omega (arith, r .room, share-parts, same, built-to, few));
         }

@@ -3,9 +3,9 @@
 use appending::reverser::append_reversed;
 use areas::writer::write_head;
 use circuit::reader::CircuitHead;
-use construct::builder::LINE_NUMBERS;
 use construct::builder::build;
 use program::reader::output_at;
+use progress::LINE_NUMBERS;
 ghost use mathlib.Core.Path.{_≡_};
 ghost use lib.Seq.{sets};
 ghost use Rattle.circuit.specs.Circuits.{InRange};

@@ -1,4 +1,4 @@
--- The worked case: its table is in order, and its circuit takes six work lines and thirteen gates. Assumes nothing.
+-- The worked case: its table is in order, and its circuit takes two work lines and five gates. Assumes nothing.
 use Prim.Native.Nat.{ℕ, _<_}
 use native.Mathlib.Omega.{arith}
 use mathlib.Core.Path.{_≡_, refl, ap, _∙_}
@@ -15,11 +15,11 @@ use Rattle.node.specs.Exprs.{Expr, INPUT, AND, size}
 use Rattle.node.specs.Nodes.{nodeAt, nodesIn, nodeFits, operandsFit, TableOk}
 use Rattle.node.specs.Trees.{trees, treesFrom, treeOf}
 use Rattle.node.proofs.NodeLaws.{node-ok}
-use Rattle.construction.specs.Construction.{linesNeeded}
-use Rattle.construction.proofs.Numbers.{held, most, mostOf}
+use Rattle.construction.specs.Construction.{inputOf, linesNeeded}
+use Rattle.construction.proofs.Numbers.{operandLines, held, most, mostOf}
 use Rattle.construction.proofs.PoolLaws.{lines-needed}
 use Rattle.construction.specs.Counting.{gatesShown}
-use Rattle.construction.specs.Steps.{builtCount, undoneCount, shareCount, sharesCount}
+use Rattle.construction.specs.Steps.{operandCount, sameInput, andCount, builtCount, undoneCount, shareCount, sharesCount}
 use Rattle.counting.specs.declared.Needs.{Needs}
 use Rattle.counting.specs.Counters.{AllCountable, Needed}
 use Rattle.program.specs.Tables.{treeIn, treesIn, Valid}
@@ -55,12 +55,12 @@ ordered i h =
     let l : i < 7 = rw (tabulate-length (nodeAt nodes) 7) at h in
     rw (tabulate-at (nodeAt nodes) 7 i Zero l) (node-ok 4 nodes i (all-below (nodeFits 4 nodes) 7 in-order i l))
 
-case-lines : linesNeeded 4 (treesIn nodes outputs) ≡ 6
-unfolding mostOf most held
+case-lines : linesNeeded 4 (treesIn nodes outputs) ≡ 2
+unfolding mostOf most held operandLines inputOf
 case-lines = lines-needed 4 (treesIn nodes outputs) ∙ ap mostOf case-trees
 
-case-gates : sharesCount (treesIn nodes outputs) ≡ 13
-unfolding sharesCount shareCount builtCount undoneCount
+case-gates : sharesCount (treesIn nodes outputs) ≡ 5
+unfolding sharesCount shareCount builtCount undoneCount operandCount andCount sameInput inputOf
 case-gates = ap sharesCount case-trees
 
 valid : Valid nodes 6
@@ -87,8 +87,8 @@ case-range n =
       gates-most = omega (arith, n .gates-are, case-gates);
     }
 
--- and an area of 132 bytes has room for it
-pub case-room : (area : List ℕ) → length area ≡ 132 → CircuitRoom nodes outputs 4 area
+-- and an area of 68 bytes has room for it
+pub case-room : (area : List ℕ) → length area ≡ 68 → CircuitRoom nodes outputs 4 area
 case-room area e =
     record {
       ordered = ordered;

@@ -8,7 +8,7 @@ fn main() {
     let nodes =
         b"\x02\0\0\0\0\0\x02\0\x01\0\0\0\x05\0\0\0\x01\0\x02\0\x02\0\0\0\x05\0\x02\0\x03\0\x02\0\x03\0\0\0\x05\0\x04\0\x05\0";
     let outputs = b"\x06\0";
-    let mut area = [0u8; 132];
+    let mut area = [0u8; 68];
     let needs = count_shares(nodes, outputs);
     let head = CircuitHead {
         inputs: 4,

@@ -17,12 +17,14 @@ pub fn read(program: &Program) -> model::program::Program {
     model::program::read(&program.bytes()).expect("a program that was drawn is in order")
 }
 
-/// A random program: deep, or unfolding to many times its nodes, or wide, or any.
+/// A random program: deep, or unfolding to many times its nodes, or wide, or close to its leaves, or
+/// any.
 pub fn any(random: &mut Random) -> Program {
-    match random.below(8) {
+    match random.below(9) {
         0 => chain(random),
         1 => doubled(random),
         2 => wide(random),
+        3 => leafy(random),
         _ => program::valid(random),
     }
 }
@@ -70,6 +72,26 @@ pub fn doubled(random: &mut Random) -> Program {
     Program::new(2, &nodes, &[last, last / 2])
 }
 
+/// A few nodes, mostly ANDs, and mostly of leaves: inputs, with two nodes each, their NOTs, and
+/// constants.
+pub fn leafy(random: &mut Random) -> Program {
+    let inputs = random.pick(&[1, 2, 3, 64]);
+    let mut nodes: Vec<Node> = (0..inputs).chain(0..inputs).map(input).collect();
+    nodes.extend((0..inputs).map(not));
+    nodes.extend([ZERO, ONE]);
+    let leaves = nodes.len();
+    for _ in 0..random.within(1..=12) {
+        let any = [(); 2].map(|()| random.below(nodes.len()) as u16);
+        let leaf = random.below(leaves) as u16;
+        let j = random.below(inputs.into()) as u16;
+        let [a, b] =
+            random.pick(&[any, [any[0], leaf], [leaf, any[1]], [j, inputs + j], [inputs + j, j]]);
+        nodes.push(random.pick(&[and(a, b), and(a, b), and(a, b), xor(a, b), not(a)]));
+    }
+    let built: Vec<u16> = (leaves as u16..nodes.len() as u16).collect();
+    Program::new(inputs, &nodes, &built[built.len().saturating_sub(4)..])
+}
+
 /// Sizes about 16,384: node 13 has one less, and NOT or XOR with a leaf goes on from there.
 pub fn large(random: &mut Random) -> Program {
     let mut nodes = vec![random.pick(&[input(0), ONE, ZERO])];
@@ -88,7 +110,8 @@ pub fn large(random: &mut Random) -> Program {
 /// Numbers about 1,000,000, which a quote shows exactly up to there: nodes that are built about so
 /// often, or half as often and undone as well, and some nodes above them.
 pub fn repeated(random: &mut Random) -> Program {
-    let mut nodes = vec![input(0), ONE, ZERO, and(2, 2), and(0, 1)];
+    let mut nodes = vec![input(0), ONE, ZERO, input(1)];
+    nodes.extend([and(2, 2), and(0, 1), and(3, 0), and(0, 0)]);
     let leaves = nodes.len();
     for _ in 0..random.within(1..=3) {
         let node = random.below(leaves) as u16;
@@ -103,7 +126,7 @@ pub fn repeated(random: &mut Random) -> Program {
     }
     let last = nodes.len() - 1;
     let outputs: Vec<u16> = (0..6).map(|back| (last - back) as u16).collect();
-    Program::new(1, &nodes, &outputs)
+    Program::new(2, &nodes, &outputs)
 }
 
 /// 64 inputs and 64 outputs, with operands from anywhere.

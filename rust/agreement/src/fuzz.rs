@@ -87,7 +87,7 @@ impl Fuzz {
 }
 
 fn programs_at_limits() -> Vec<Vec<u8>> {
-    let refused = [limits::a_gate_too_many(), limits::ands(513, true)];
+    let refused = [limits::a_gate_too_many(), limits::ands(1_026, true)];
     limits::accepted().iter().chain(&refused).map(|program| program.bytes()).collect()
 }
 

@@ -7,8 +7,9 @@ pub fn accepted() -> Vec<Program> {
     vec![
         most_gates(),
         most_outputs(),
-        ands(512, false),
-        ands(512, true),
+        ands(1_025, false),
+        ands(1_025, true),
+        ands_of_nots(512),
         most_lines(),
         deepest(),
         longest_file(),
@@ -28,35 +29,42 @@ pub fn a_gate_too_many() -> Program {
     Program::new(1, &most_gates().nodes, &[17, 0])
 }
 
-/// 64 inputs and 64 outputs, which are two ANDs of 32 inputs each, in turn: 125 gates an output,
-/// 8,000 in all, and 62 work lines.
+/// 64 inputs and 64 outputs, which are two ANDs of all inputs, in turn, one from the first input up
+/// and one from the last down: 125 gates an output, 8,000 in all, and 62 work lines.
 pub fn most_outputs() -> Program {
     let mut nodes: Vec<Node> = (0..64).map(input).collect();
-    for half in [0, 32] {
-        nodes.push(and(half, half + 1));
-        for j in half + 2..half + 32 {
-            let before = nodes.len() as u16 - 1;
-            nodes.push(and(before, j));
-        }
-    }
-    Program::new(64, &nodes, &[94, 125].repeat(32))
+    nodes.push(and(0, 1));
+    nodes.extend((2..64).map(|j| and(62 + j, j)));
+    nodes.push(and(63, 62));
+    nodes.extend((0..62).rev().map(|j| and(j, 188 - j)));
+    Program::new(64, &nodes, &[126, 189].repeat(32))
 }
 
-/// So many ANDs, each of the one before and an input: two work lines each, and 1,024 with 512.
+/// So many ANDs, the first of two inputs, each next one of the one before and an input: a work line
+/// for each but the first, and 1,024 with 1,025. An input's line is below them all.
 pub fn ands(count: u16, input_first: bool) -> Program {
     let mut nodes: Vec<Node> = (0..64).map(input).collect();
     for before in 63..63 + count {
-        let j = before % 64;
+        let j = (before + 1) % 64;
         nodes.push(if input_first { and(j, before) } else { and(before, j) });
     }
     Program::new(64, &nodes, &[63 + count])
 }
 
+/// So many ANDs, each of the one before and NOT of an input, the first of two NOTs: two work lines
+/// each, and 1,024 with 512.
+pub fn ands_of_nots(count: u16) -> Program {
+    let mut nodes: Vec<Node> = (0..64).map(input).collect();
+    nodes.extend((0..64).map(not));
+    nodes.extend((127..127 + count).map(|before| and(before, 64 + before % 63)));
+    Program::new(64, &nodes, &[127 + count])
+}
+
 /// 1,152 lines, the most: 64 inputs, 64 outputs, and 1,024 work lines, which the last output takes.
 pub fn most_lines() -> Program {
     let mut outputs: Vec<u16> = (0..63).collect();
-    outputs.push(575);
-    Program::new(64, &ands(512, false).nodes, &outputs)
+    outputs.push(1_088);
+    Program::new(64, &ands(1_025, false).nodes, &outputs)
 }
 
 /// The most nodes, each NOT of the one before but the first.
@@ -100,10 +108,14 @@ mod tests {
     fn each_is_where_it_says() {
         assert_eq!(measures(&most_gates()), (8_000, 0, 15_999));
         assert_eq!(measures(&a_gate_too_many()), (8_001, 0, 15_999));
-        assert_eq!(measures(&most_outputs()), (8_000, 62, 63));
-        assert_eq!(measures(&ands(512, false)), (2_049, 1_024, 1_025));
-        assert_eq!(measures(&ands(512, true)), (2_049, 1_024, 1_025));
-        assert_eq!(measures(&ands(513, false)), (2_053, 1_026, 1_027));
+        assert_eq!(measures(&most_outputs()), (8_000, 62, 127));
+        for input_first in [false, true] {
+            assert_eq!(measures(&ands(1, input_first)), (1, 0, 3));
+            assert_eq!(measures(&ands(1_025, input_first)), (2_049, 1_024, 2_051));
+            assert_eq!(measures(&ands(1_026, input_first)), (2_051, 1_025, 2_053));
+        }
+        assert_eq!(measures(&ands_of_nots(512)), (3_075, 1_024, 1_538));
+        assert_eq!(measures(&ands_of_nots(513)), (3_081, 1_026, 1_541));
         assert_eq!(measures(&most_lines()), (63 + 2_049, 1_024, 1));
         assert_eq!(measures(&deepest()), (4_096, 0, 4_096));
         assert_eq!(measures(&largest_outputs(64)), (64 * 8_193, 0, 16_384));

@@ -6,7 +6,7 @@
 
 use std::path::PathBuf;
 
-use crate::program::{and, input, node, Program, ONE, ZERO};
+use crate::program::{and, input, node, not, xor, Program, ONE, ZERO};
 use crate::{limits, shaped};
 
 /// The grant of the listing program.
@@ -79,15 +79,35 @@ fn refused_by_the_reader() -> Vec<Case> {
 fn examples() -> Vec<Case> {
     let three_outputs = Program::new(1, &[input(0), ONE, and(0, 1), and(2, 0)], &[2, 3, 1]);
     vec![
-        case("whole_case", shaped::program::WHOLE_CASE.to_vec(), "lines 2 1 2 gates 5"),
+        case("whole_case", shaped::program::WHOLE_CASE.to_vec(), "lines 2 1 0 gates 1"),
         case("nor", shaped::program::nor().bytes(), "lines 2 1 2 gates 9"),
-        case("and_of_three", shaped::program::and_of_three().bytes(), "lines 3 1 4 gates 9"),
-        case("and_of_four", shaped::program::and_of_four().bytes(), "lines 4 1 6 gates 13"),
+        case("and_of_three", shaped::program::and_of_three().bytes(), "lines 3 1 1 gates 3"),
+        case("and_of_four", shaped::program::and_of_four().bytes(), "lines 4 1 2 gates 5"),
+        case("operands", operands().bytes(), "lines 3 6 1 gates 15"),
         case("xor_with_itself", shaped::program::xor_with_itself().bytes(), "lines 1 1 0 gates 2"),
         case("zero", shaped::program::output_zero().bytes(), "lines 0 1 0 gates 0"),
         case("one", Program::new(0, &[ONE], &[0]).bytes(), "lines 0 1 0 gates 1"),
-        case("three_outputs", three_outputs.bytes(), "lines 1 3 4 gates 15"),
+        case("three_outputs", three_outputs.bytes(), "lines 1 3 2 gates 9"),
     ]
+}
+
+/// What an operand of AND can be: inputs in the other order, one input by one node and by two, an
+/// AND, an AND beside another, and NOT of an input.
+fn operands() -> Program {
+    let nodes = [
+        input(0),
+        input(1),
+        input(2),
+        input(1),
+        and(1, 0),
+        and(1, 1),
+        and(1, 3),
+        and(2, 4),
+        xor(4, 7),
+        not(0),
+        and(9, 2),
+    ];
+    Program::new(3, &nodes, &[4, 5, 6, 7, 8, 10])
 }
 
 /// The XOR chain of 01: its last node, NOT of it, NOT of that, and all three.
@@ -104,8 +124,8 @@ fn sizes() -> Vec<Case> {
 
 fn limits() -> Vec<Case> {
     vec![
-        case("work_1024", limits::ands(512, false).bytes(), "lines 64 1 1024 gates 2049"),
-        case("work_1026", limits::ands(513, false).bytes(), "refused 10 1026"),
+        case("work_1024", limits::ands(1_025, false).bytes(), "lines 64 1 1024 gates 2049"),
+        case("work_1025", limits::ands(1_026, false).bytes(), "refused 10 1025"),
         case("lines_1152", limits::most_lines().bytes(), "lines 64 64 1024 gates 2112"),
         case("gates_8000", limits::most_gates().bytes(), "lines 1 1 0 gates 8000"),
         case("gates_8001", limits::a_gate_too_many().bytes(), "refused 11 8001"),

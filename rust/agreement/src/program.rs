@@ -122,6 +122,23 @@ pub fn times(nodes: &mut Vec<Node>, node: u16, count: usize) -> u16 {
     last
 }
 
+/// Every table of so many nodes over two inputs.
+pub fn every_table(length: u16) -> Vec<Vec<Node>> {
+    let mut tables = vec![vec![]];
+    for i in 0..length {
+        tables = tables.iter().flat_map(|table| longer_by_one(table, i)).collect();
+    }
+    tables
+}
+
+/// The table with each node that can follow its first i.
+fn longer_by_one(table: &[Node], i: u16) -> Vec<Vec<Node>> {
+    let mut next = vec![ZERO, ONE, input(0), input(1)];
+    next.extend((0..i).map(not));
+    next.extend((0..i).flat_map(|a| (0..i).flat_map(move |b| [xor(a, b), and(a, b)])));
+    next.into_iter().map(|node| [table, &[node]].concat()).collect()
+}
+
 /// A random program that every check accepts: all kinds, nodes used more than once, mostly few of them.
 pub fn valid(random: &mut Random) -> Program {
     let inputs = match random.below(6) {

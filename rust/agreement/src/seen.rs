@@ -25,12 +25,72 @@ pub struct Seen {
     pub largest_size: usize,
     /// The most nodes on an output's way down to a leaf.
     pub deepest: usize,
+    /// What the ANDs that are built were of.
+    pub ands: Ands,
     /// Runs with the work lines zero at the start.
     pub runs_from_zero: u64,
     /// Runs with another start.
     pub other_runs: u64,
     /// How many values were 0, how many 1, in the runs from zero.
     pub values: [u64; 2],
+}
+
+/// How many ANDs had such operands.
+#[derive(Debug, Default, PartialEq, Eq)]
+pub struct Ands {
+    /// Two inputs, the lower one first.
+    pub rising: u64,
+    /// Two inputs, the higher one first.
+    pub falling: u64,
+    /// One input by one node.
+    pub by_one_node: u64,
+    /// One input by two nodes.
+    pub by_two_nodes: u64,
+    /// An input first, and another node.
+    pub input_first: u64,
+    /// Another node, and an input second.
+    pub input_second: u64,
+    /// No input.
+    pub no_input: u64,
+    /// NOT of an input, on either side.
+    pub not_of_input: u64,
+    /// A constant, on either side.
+    pub constant: u64,
+}
+
+impl Ands {
+    fn count(&mut self, nodes: &[Node], a: usize, b: usize) {
+        let kind = match (nodes[a], nodes[b]) {
+            (Input(_), Input(_)) if a == b => &mut self.by_one_node,
+            (Input(j), Input(k)) if j == k => &mut self.by_two_nodes,
+            (Input(j), Input(k)) if j < k => &mut self.rising,
+            (Input(_), Input(_)) => &mut self.falling,
+            (Input(_), _) => &mut self.input_first,
+            (_, Input(_)) => &mut self.input_second,
+            _ => &mut self.no_input,
+        };
+        *kind += 1;
+        let not_of_input = |i: usize| matches!(nodes[i], Not(c) if matches!(nodes[c], Input(_)));
+        let constant = |i: usize| matches!(nodes[i], Zero | One);
+        self.not_of_input += u64::from([a, b].into_iter().any(not_of_input));
+        self.constant += u64::from([a, b].into_iter().any(constant));
+    }
+
+    /// Fails unless operands of each kind were met so often.
+    pub fn finish(&self, at_least: u64) {
+        let counts = [
+            self.rising,
+            self.falling,
+            self.by_one_node,
+            self.by_two_nodes,
+            self.input_first,
+            self.input_second,
+            self.no_input,
+            self.not_of_input,
+            self.constant,
+        ];
+        assert!(counts.iter().all(|count| *count >= at_least), "too few of a kind: {self:?}");
+    }
 }
 
 impl Seen {
@@ -50,6 +110,16 @@ impl Seen {
         self.most_lines = self.most_lines.max(program.inputs + outputs + work);
         self.largest_size = self.largest_size.max(largest);
         self.deepest = self.deepest.max(most(&depths));
+        self.count_ands(program);
+    }
+
+    fn count_ands(&mut self, program: &Program) {
+        let nodes = &program.nodes;
+        for (i, built) in built(program).into_iter().enumerate() {
+            if let (true, And(a, b)) = (built, nodes[i]) {
+                self.ands.count(nodes, a, b);
+            }
+        }
     }
 
     /// Counts so many runs from a start with these work lines, and the values that they showed.
@@ -75,11 +145,30 @@ impl Seen {
             "{name}: at most {} gates, {} work lines, {} lines, size {}, depth {}",
             self.most_gates, self.most_work_lines, self.most_lines, self.largest_size, self.deepest
         );
+        println!("{name}: {:?}", self.ands);
         println!(
             "{name}: {} runs with the work lines zero, {} others; {} values 0, {} values 1",
             self.runs_from_zero, self.other_runs, self.values[0], self.values[1]
         );
     }
+}
+
+/// For each node, whether an output is made of it.
+fn built(program: &Program) -> Vec<bool> {
+    let mut built = vec![false; program.nodes.len()];
+    for output in &program.outputs {
+        built[*output] = true;
+    }
+    for (i, node) in program.nodes.iter().enumerate().rev() {
+        if built[i] {
+            match *node {
+                Zero | One | Input(_) => {}
+                Not(a) => built[a] = true,
+                Xor(a, b) | And(a, b) => (built[a], built[b]) = (true, true),
+            }
+        }
+    }
+    built
 }
 
 /// For each node, the nodes on its longest way down to a leaf.
@@ -111,5 +200,28 @@ mod tests {
         assert_eq!((seen.most_gates, seen.most_work_lines, seen.most_lines), (12, 4, 7));
         assert_eq!((seen.largest_size, seen.deepest), (7, 3));
         assert_eq!((seen.runs_from_zero, seen.other_runs, seen.values), (3, 2, [1, 2]));
+        assert_eq!(seen.ands, Ands { by_one_node: 1, ..Ands::default() });
+    }
+
+    #[test]
+    fn operands_of_ands_are_counted() {
+        let leaves = [Input(0), Input(1), Input(1), Not(0), One];
+        let of = |and: Node| {
+            let nodes = [&leaves[..], &[And(0, 1), Xor(5, 5), and]].concat();
+            let mut seen = Seen::default();
+            seen.program(&Program { inputs: 2, nodes: nodes.clone(), outputs: vec![7] }, 0, 0);
+            seen.program(&Program { inputs: 2, nodes, outputs: vec![0] }, 0, 0);
+            seen.ands
+        };
+        let none = Ands::default;
+        assert_eq!(of(And(0, 2)), Ands { rising: 1, ..none() });
+        assert_eq!(of(And(2, 0)), Ands { falling: 1, ..none() });
+        assert_eq!(of(And(1, 1)), Ands { by_one_node: 1, ..none() });
+        assert_eq!(of(And(2, 1)), Ands { by_two_nodes: 1, ..none() });
+        assert_eq!(of(And(0, 3)), Ands { input_first: 1, not_of_input: 1, ..none() });
+        assert_eq!(of(And(4, 0)), Ands { input_second: 1, constant: 1, ..none() });
+        assert_eq!(of(And(3, 4)), Ands { no_input: 1, not_of_input: 1, constant: 1, ..none() });
+        // With the AND of two inputs that the XOR has below it.
+        assert_eq!(of(And(6, 6)), Ands { no_input: 1, rising: 1, ..none() });
     }
 }

@@ -105,16 +105,16 @@ fn refuses(name: &str, program: &Program, grant: u64, refusal: (u64, u64)) {
 #[test]
 fn the_whole_case() {
     let circuit = shaped::circuit::whole_case();
-    assert_eq!(circuit.bytes().len(), 68);
+    assert_eq!(circuit.bytes().len(), 36);
     gives("the whole case", &shaped::program::whole_case(), &[1, 1, 3], &circuit);
 
     let file = shaped::program::WHOLE_CASE;
-    let case = Case::new(&file, 2, 3, 67);
-    check("an area of 67", &case, Err((11, 5)), &[1, 1, 3], &[0; 67]);
-    let case = Case::new(&file, 1, 3, 68);
-    check("a grant of 1", &case, Err((10, 2)), &[1, 1, 3], &case.area);
-    let case = Case::new(&file, 2, 3, 68);
-    check("a grant of 2", &case, Ok(68), &[1, 1, 3], &shaped::circuit::WHOLE_CASE);
+    for grant in 0..=1_024 {
+        let case = Case::new(&file, grant, 3, 36);
+        check("any grant", &case, Ok(36), &[1, 1, 3], &shaped::circuit::WHOLE_CASE);
+        let case = Case::new(&file, grant, 3, 35);
+        check("an area of 35", &case, Err((11, 1)), &[1, 1, 3], &[0; 35]);
+    }
 }
 
 #[test]
@@ -128,7 +128,7 @@ fn the_other_examples() {
         &[1, 1, 3, 1, 5],
         &shaped::circuit::and_of_three(),
     );
-    refuses("AND of three, grant 3", &shaped::program::and_of_three(), 3, (10, 4));
+    refuses("AND of three, grant 0", &shaped::program::and_of_three(), 0, (10, 1));
 
     let circuit = Circuit::new(1, 1, 0, &[cnot(0, 1), cnot(0, 1)]);
     gives("XOR with itself", &shaped::program::xor_with_itself(), &[1, 3], &circuit);
@@ -138,24 +138,28 @@ fn the_other_examples() {
     gives("output ONE", &one, &[1], &Circuit::new(0, 1, 0, &[flip(0)]));
 }
 
+/// Inputs, by one node or two, their NOTs, constants and ANDs, on either side.
+#[test]
+fn every_kind_of_operand() {
+    for example in shaped::operands::all() {
+        gives(example.name, &example.program, &sizes_of(&example.program), &example.circuit);
+    }
+}
+
 /// A node is built anew at each use, on new lines, and all lines are free again for the next
 /// output.
 #[test]
 fn shared_nodes_and_several_outputs() {
-    let nodes = [input(0), and(0, 0), xor(1, 1)];
-    let build =
-        [cnot(0, 2), cnot(0, 3), toffoli(2, 3, 1), cnot(0, 4), cnot(0, 5), toffoli(4, 5, 1)];
-    let clean = [cnot(0, 5), cnot(0, 4), cnot(0, 3), cnot(0, 2)];
-    let circuit = Circuit::new(1, 1, 4, &[&build[..], &clean].concat());
-    gives("a shared AND", &Program::new(1, &nodes, &[2]), &[1, 3, 7], &circuit);
+    let nodes = [input(0), ONE, and(0, 1), xor(2, 2)];
+    let build = [flip(2), toffoli(0, 2, 1), flip(3), toffoli(0, 3, 1)];
+    let circuit = Circuit::new(1, 1, 2, &[&build[..], &[flip(3), flip(2)]].concat());
+    gives("a shared AND", &Program::new(1, &nodes, &[3]), &[1, 1, 3, 7], &circuit);
 
     // The second of three outputs takes the most lines.
     let nodes = [input(0), ONE, and(0, 1), and(2, 0)];
-    let first = [cnot(0, 4), flip(5), toffoli(4, 5, 1), flip(5), cnot(0, 4)];
-    let build = [cnot(0, 5), flip(6), toffoli(5, 6, 4), cnot(0, 7), toffoli(4, 7, 2)];
-    let clean = [cnot(0, 7), toffoli(5, 6, 4), flip(6), cnot(0, 5)];
-    let gates = [&first[..], &build, &clean, &[flip(3)]].concat();
-    let circuit = Circuit::new(1, 3, 4, &gates);
+    let first = [flip(4), toffoli(0, 4, 1), flip(4)];
+    let second = [flip(5), toffoli(0, 5, 4), toffoli(0, 4, 2), toffoli(0, 5, 4), flip(5)];
+    let circuit = Circuit::new(1, 3, 2, &[&first[..], &second, &[flip(3)]].concat());
     gives("three outputs", &Program::new(1, &nodes, &[2, 3, 1]), &[1, 1, 3, 5], &circuit);
 
     // An output that is named twice has two shares; the nodes behind it have none.
@@ -164,7 +168,7 @@ fn shared_nodes_and_several_outputs() {
     gives("an output twice", &twice, &[1, 3, 4], &circuit);
 }
 
-/// An AND takes two lines even where nothing is built into them.
+/// ZERO as an operand takes a line, even if nothing is built into it.
 #[test]
 fn lines_that_no_gate_targets() {
     let nodes = [ZERO, and(0, 0), and(1, 0)];
@@ -176,14 +180,7 @@ fn lines_that_no_gate_targets() {
 #[test]
 fn and_of_four_inputs() {
     let mut circuit = shaped::circuit::and_of_four_built();
-    circuit.gates.extend([
-        cnot(3, 10),
-        toffoli(6, 9, 5),
-        cnot(2, 9),
-        toffoli(7, 8, 6),
-        cnot(1, 8),
-        cnot(0, 7),
-    ]);
+    circuit.gates.extend([toffoli(2, 6, 5), toffoli(0, 1, 6)]);
     gives("AND of four", &shaped::program::and_of_four(), &[1, 1, 3, 1, 5, 1, 7], &circuit);
 }
 
@@ -292,12 +289,12 @@ fn the_most_gates() {
 
     let with_last_output = |node| {
         let mut program = limits::most_outputs();
-        program.nodes.extend([ZERO, xor(0, 94)]);
+        program.nodes.extend([ZERO, xor(0, 126)]);
         program.outputs[63] = node;
         program
     };
-    refuses("8,001 gates, 64 outputs", &with_last_output(127), 62, (11, 8_001));
-    gives_the_models("7,875 gates, 64 outputs", &with_last_output(126));
+    refuses("8,001 gates, 64 outputs", &with_last_output(191), 62, (11, 8_001));
+    gives_the_models("7,875 gates, 64 outputs", &with_last_output(190));
 }
 
 /// Numbers of gates that are less in 16 bits.
@@ -328,13 +325,15 @@ fn far_more_gates() {
 #[test]
 fn the_most_work_lines() {
     for input_first in [false, true] {
-        gives_the_models("1,024 lines", &limits::ands(512, input_first));
+        gives_the_models("1,024 lines", &limits::ands(1_025, input_first));
         for grant in [0, 1, 1_023, 1_024] {
-            refuses("1,026 lines", &limits::ands(513, input_first), grant, (10, 1_026));
+            refuses("1,025 lines", &limits::ands(1_026, input_first), grant, (10, 1_025));
         }
-        refuses("1,026 lines", &limits::ands(513, input_first), 1_025, (9, 0));
-        refuses("4,094 lines", &limits::ands(2_047, input_first), 1_024, (10, 4_094));
+        refuses("1,025 lines", &limits::ands(1_026, input_first), 1_025, (9, 0));
+        refuses("4,031 lines", &limits::ands(4_032, input_first), 1_024, (10, 4_031));
     }
+    gives_the_models("1,024 lines, two an AND", &limits::ands_of_nots(512));
+    refuses("1,026 lines, two an AND", &limits::ands_of_nots(513), 1_024, (10, 1_026));
 
     gives_the_models("1,152 lines in all", &limits::most_lines());
 
@@ -345,55 +344,60 @@ fn the_most_work_lines() {
         program.outputs = vec![64 + ands];
         program
     };
-    gives_the_models("XOR, 1,024 lines", &both(256, 256));
-    refuses("XOR, 1,024 lines, grant 1,023", &both(256, 256), 1_023, (10, 1_024));
-    refuses("XOR, 1,026 lines", &both(257, 256), 1_024, (10, 1_026));
+    gives_the_models("XOR, 1,024 lines", &both(513, 513));
+    refuses("XOR, 1,024 lines, grant 1,023", &both(513, 513), 1_023, (10, 1_024));
+    refuses("XOR, 1,025 lines", &both(514, 513), 1_024, (10, 1_025));
 
-    // The most lines that a size of at most 16,384 takes.
-    let mut nodes = vec![input(0)];
-    nodes.extend((0..13).map(|before| and(before, before)));
-    let doubled = Program::new(1, &nodes, &[13]);
-    refuses("16,382 lines", &doubled, 1_024, (10, 16_382));
-    refuses("16,382 lines, grant 0", &doubled, 0, (10, 16_382));
+    // The most lines that a size of at most 16,384 takes, and those of an input instead of ONE.
+    let doubled = |leaf: Node| {
+        let mut nodes = vec![leaf];
+        nodes.extend((0..13).map(|before| and(before, before)));
+        Program::new(1, &nodes, &[13])
+    };
+    for (leaf, lines) in [(ONE, 16_382), (input(0), 8_190)] {
+        refuses("AND of a node with itself", &doubled(leaf), 1_024, (10, lines));
+        refuses("AND of a node with itself, grant 0", &doubled(leaf), 0, (10, lines));
+    }
 }
 
 /// Lines are free again for the next output, so w is the most and no sum.
 #[test]
 fn work_lines_of_several_outputs() {
     let chain = |outputs: &[u16]| {
-        let mut program = limits::ands(513, false);
+        let mut program = limits::ands(1_026, false);
         program.outputs = outputs.to_vec();
         program.output_count = outputs.len() as u16;
         program
     };
-    // Node 63 + i takes 2 i lines.
-    for outputs in [[73, 65, 64], [65, 73, 64], [64, 65, 73], [0, 73, 73]] {
+    // Node 64 + i takes i lines.
+    for outputs in [[84, 66, 64], [66, 84, 64], [64, 66, 84], [0, 84, 84]] {
         gives_the_models("20 lines", &chain(&outputs));
         refuses("20 lines, grant 19", &chain(&outputs), 19, (10, 20));
     }
-    gives_the_models("three times 1,024 lines", &chain(&[575, 575, 575]));
-    for outputs in [[576, 65, 64], [65, 576, 64], [64, 65, 576]] {
-        refuses("1,026 lines", &chain(&outputs), 1_024, (10, 1_026));
+    gives_the_models("three times 1,024 lines", &chain(&[1_088, 1_088, 1_088]));
+    for outputs in [[1_089, 66, 64], [66, 1_089, 64], [64, 66, 1_089]] {
+        refuses("1,025 lines", &chain(&outputs), 1_024, (10, 1_025));
     }
 }
 
 /// One output over each limit. Where an earlier cause is there as well, it is the one given.
 #[test]
 fn causes_together() {
-    // Node 13 has 8,192 gates, node 14 size 32,767, and node 527 is the last of 513 ANDs.
+    // Node 13 has 8,192 gates, node 14 size 32,767, and node 1,040 is the last of 1,026 ANDs, of
+    // which all but the first take a line.
     let mut nodes = vec![input(0)];
     nodes.extend((0..14).map(|before| xor(before, before)));
     nodes.push(and(0, 0));
-    nodes.extend((15..527).map(|before| and(before, 0)));
+    nodes.extend((15..1_040).map(|before| and(before, 0)));
     let program = |outputs: &[u16]| Program::new(1, &nodes, outputs);
-    let (small, gates, large, lines) = (0, 13, 14, 527);
+    let (small, gates, large, lines) = (0, 13, 14, 1_040);
 
     for grant in [0, 1_023, 1_024] {
         refuses("8, 10 and 11", &program(&[gates, lines, large]), grant, (8, 2));
         refuses("8 and 10", &program(&[lines, large]), grant, (8, 1));
         refuses("8 and 11", &program(&[large, gates]), grant, (8, 0));
-        refuses("10 and 11", &program(&[gates, lines]), grant, (10, 1_026));
-        refuses("10 and 11", &program(&[lines, gates]), grant, (10, 1_026));
+        refuses("10 and 11", &program(&[gates, lines]), grant, (10, 1_025));
+        refuses("10 and 11", &program(&[lines, gates]), grant, (10, 1_025));
         refuses("11 alone", &program(&[small, gates]), grant, (11, 8_193));
     }
     for grant in TOO_HIGH {
@@ -439,16 +443,45 @@ fn shaped_files_accepted_by_the_reader() {
     tally.finish(1_000, &[7, 8, 9, 10, 11]);
 }
 
-/// Every one-byte change of a small file.
+/// Every one-byte change of a small file. A line is needed where an input becomes a constant.
 #[test]
 fn each_byte_of_the_whole_case_changed() {
     let mut tally = Tally::new("compile, one byte changed");
     for file in damage::each_byte_changed(&shaped::program::WHOLE_CASE) {
-        for (grant, length) in [(2, 68), (1, 68), (2, 67), (1_024, 35)] {
+        for (grant, length) in [(0, 36), (1, 52), (1, 51), (1_024, 35)] {
             tally.count(&compare(&Case::new(&file, grant, 3, length)));
         }
     }
     tally.finish(56 * 256 * 4, &[1, 2, 3, 4, 5, 6, 10, 11]);
+}
+
+/// Every one-byte change of a file whose circuit has work lines and gates of every kind.
+#[test]
+fn each_byte_of_nor_changed() {
+    let mut tally = Tally::new("compile, one byte of NOR changed");
+    let file = shaped::program::nor().bytes();
+    for file in damage::each_byte_changed(&file) {
+        for (grant, length) in [(2, 100), (1, 100), (2, 99), (1_024, 67)] {
+            tally.count(&compare(&Case::new(&file, grant, 5, length)));
+        }
+    }
+    tally.finish(68 * 256 * 4, &[1, 2, 3, 4, 5, 6, 10, 11]);
+}
+
+/// Every table of four nodes over two inputs, each of them an output: 9,800 programs.
+#[test]
+fn every_small_table() {
+    let mut tally = Tally::new("compile, every small table");
+    for nodes in program::every_table(4) {
+        let file = Program::new(2, &nodes, &[3, 2, 1, 0]).bytes();
+        let (work, needed) = needs(&file).expect("a small program");
+        tally.count(&compare(&Case::new(&file, work, 4, needed)));
+        if work > 0 {
+            let short = compare(&Case::new(&file, work - 1, 4, needed));
+            assert_eq!(short, Err((10, work)), "{nodes:?}");
+        }
+    }
+    tally.finish(4 * 7 * 14 * 25, &[]);
 }
 
 #[test]
@@ -474,6 +507,7 @@ fn random_and_damaged_cases() {
     assert!(with_bytes_behind > 1_000, "too few long areas");
     assert!(seen.most_gates > 7_000, "no circuit with many gates");
     assert!(seen.most_work_lines > 1_000, "no circuit with many work lines");
+    seen.ands.finish(200);
 }
 
 fn count(seen: &mut Seen, case: &Case, length: usize) {

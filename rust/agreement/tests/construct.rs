@@ -11,6 +11,7 @@ use agreement::seen::Seen;
 use agreement::{bits, hex, limits, repository, shaped};
 use model::circuit::{self, Circuit, Gate};
 use model::construct;
+use model::program::Node::{self, And, Input, Not, One, Xor, Zero};
 
 /// Prints the run, and fails unless it met enough of everything.
 fn finish(seen: &Seen, name: &str, at_least: u64) {
@@ -22,6 +23,7 @@ fn finish(seen: &Seen, name: &str, at_least: u64) {
     assert!(seen.most_work_lines > 1_000, "no circuit with many work lines");
     assert!(seen.largest_size > 5_000, "no large node");
     assert!(seen.deepest > 3_000, "no deep node");
+    seen.ands.finish(at_least / 20);
 }
 
 /// Holds the lines after the shares of the first j outputs, for every j, to what 01 says of them.
@@ -85,10 +87,11 @@ fn at_the_limits() {
     };
 
     check("8,000 gates", limits::most_gates(), 8_000, 0, 15_999);
-    check("64 outputs", limits::most_outputs(), 8_000, 62, 63);
+    check("64 outputs", limits::most_outputs(), 8_000, 62, 127);
     for input_first in [false, true] {
-        check("1,024 work lines", limits::ands(512, input_first), 2_049, 1_024, 1_025);
+        check("1,024 work lines", limits::ands(1_025, input_first), 2_049, 1_024, 2_051);
     }
+    check("two work lines an AND", limits::ands_of_nots(512), 3_075, 1_024, 1_538);
     check("4,095 NOTs", limits::deepest(), 4_096, 0, 4_096);
 
     let mut chain = shaped::program::xor_chain();
@@ -123,11 +126,14 @@ fn controls(gate: &Gate) -> Vec<usize> {
 
 /// One step of the construction: the gates of a node from those of its operands, the second built
 /// on the lines that the first has left free.
-fn from_operands(nodes: &[model::program::Node], i: usize, t: usize, f: usize) -> Vec<Gate> {
-    use model::program::Node::{And, Input, Not, One, Xor, Zero};
-
+fn from_operands(nodes: &[Node], i: usize, t: usize, f: usize) -> Vec<Gate> {
     let build = |i, t, f| construct::build(nodes, i, t, f);
     let lines = |i| construct::work_lines(nodes, i);
+    // The line of an operand of AND, its gates, and the lowest line that is then free.
+    let control = |operand: usize, f: usize| match nodes[operand] {
+        Input(j) => (j, vec![], f),
+        _ => (f, build(operand, f, f + 1), f + 1 + lines(operand)),
+    };
     match nodes[i] {
         Zero => vec![],
         One => vec![Gate::Not(t)],
@@ -135,9 +141,14 @@ fn from_operands(nodes: &[model::program::Node], i: usize, t: usize, f: usize) -
         Not(a) => [vec![Gate::Not(t)], build(a, t, f)].concat(),
         Xor(a, b) => [build(a, t, f), build(b, t, f + lines(a))].concat(),
         And(a, b) => {
-            let second = f + 1 + lines(a);
-            let toffoli = vec![Gate::Toffoli(f, second, t)];
-            [build(a, f, f + 1), build(b, second, second + 1), toffoli].concat()
+            let (first, of_first, free) = control(a, f);
+            let (second, of_second, _) = control(b, free);
+            let last = if first == second {
+                Gate::Cnot(first, t)
+            } else {
+                Gate::Toffoli(first.min(second), first.max(second), t)
+            };
+            [of_first, of_second, vec![last]].concat()
         }
     }
 }
@@ -209,8 +220,8 @@ fn checked_share(
     share
 }
 
-/// The lines taken are the lowest ones, each the control of one gate, and no other line but an input
-/// is a control.
+/// The lines taken are the lowest ones, each the control of one gate that builds, and no other line
+/// but an input is a control. So each operand of AND that is no input has a line of its own.
 fn check_lines(program: &model::program::Program, k: usize, build: &[Gate], share: &[Gate]) {
     let mut taken: Vec<usize> =
         build.iter().flat_map(controls).filter(|line| *line >= program.inputs).collect();
@@ -240,7 +251,8 @@ fn check_bounds(
     reached.gates += u64::from(size > 1 && gates == 2 * size - 1);
 }
 
-/// The examples of 01, gate by gate as they are written out beside the circuit files.
+/// The examples of 01 and every kind of operand, gate by gate as they are written out beside the
+/// circuit files.
 #[test]
 fn the_examples() {
     let check = |name: &str, program: Program, expected: Vec<u8>| {
@@ -251,6 +263,9 @@ fn the_examples() {
     check("NOR", shaped::program::nor(), shaped::circuit::nor().bytes());
     let three = shaped::program::and_of_three();
     check("AND of three inputs", three, shaped::circuit::and_of_three().bytes());
+    for example in shaped::operands::all() {
+        check(example.name, example.program, example.circuit.bytes());
+    }
 
     let four = read(&shaped::program::and_of_four());
     let built =
@@ -269,11 +284,11 @@ fn the_worked_case() {
     }
     assert_eq!(file.len(), written.len(), "the proved code, then the model");
 
-    let head = oracle::CircuitHead { inputs: 4, outputs: 1, work: 6, gates: 13 };
+    let head = oracle::CircuitHead { inputs: 4, outputs: 1, work: 2, gates: 5 };
     assert_eq!(oracle::read_circuit(&file), Ok(head));
     let mut from_zero = 0;
-    for state in 0..1 << 11 {
-        let start = bits(state, 11);
+    for state in 0..1 << 7 {
+        let start = bits(state, 7);
         let after = run(&file, &start);
         let mut expected = start.clone();
         assert_eq!(model::run::forwards(&file, &mut expected), Ok(()));
@@ -281,12 +296,12 @@ fn the_worked_case() {
 
         assert_eq!(after[..4], start[..4], "the inputs, from {start:?}");
         assert_eq!(after[5..], start[5..], "the work lines, from {start:?}");
-        if start[5..] == [0; 6] {
+        if start[5..] == [0; 2] {
             let and = start[0] & start[1] & start[2] & start[3];
             assert_eq!(after[4], start[4] ^ and, "the target, from {start:?}");
             from_zero += 1;
         }
     }
-    println!("construct: the worked case from 2048 starts, {from_zero} with the work lines zero");
+    println!("construct: the worked case from 128 starts, {from_zero} with the work lines zero");
     assert_eq!(from_zero, 32);
 }

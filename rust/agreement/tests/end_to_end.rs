@@ -162,7 +162,7 @@ fn all_hold(name: &str, seed: u64, programs: &[Program]) -> Seen {
 
 #[test]
 fn the_examples() {
-    let examples = [
+    let mut examples = vec![
         shaped::program::whole_case(),
         shaped::program::nor(),
         shaped::program::and_of_three(),
@@ -170,30 +170,33 @@ fn the_examples() {
         shaped::program::xor_with_itself(),
         shaped::program::output_zero(),
     ];
+    examples.extend(shaped::operands::all().into_iter().map(|example| example.program));
     all_hold("end to end, examples", 0x6578_616d, &examples);
 }
 
-/// 01's words on the whole case: from inputs 1 1 and target 1 the target ends 0; with line 3
-/// starting at 1 it stays 1, and line 3 ends 1.
+/// 01's words on the whole case, and 02's: from inputs 1 1 and target 1 the target ends 0. With a work
+/// line starting at 1, line 4 of the three-input case, it stays 1, and the line ends 1.
 #[test]
-fn the_whole_case_from_two_starts() {
+fn two_examples_from_their_starts() {
     let mut random = Random::new(0x7477_6f73);
     let whole = compiled(&mut random, shaped::program::whole_case());
-    assert_eq!(run(&whole.file, &[1, 1, 1, 0, 0]), [1, 1, 0, 0, 0]);
-    assert_eq!(run(&whole.file, &[1, 1, 1, 1, 0]), [1, 1, 1, 1, 0]);
+    assert_eq!(run(&whole.file, &[1, 1, 1]), [1, 1, 0]);
+    let three = compiled(&mut random, shaped::program::and_of_three());
+    assert_eq!(run(&three.file, &[1, 1, 1, 1, 0]), [1, 1, 1, 0, 0]);
+    assert_eq!(run(&three.file, &[1, 1, 1, 1, 1]), [1, 1, 1, 1, 1]);
 }
 
-/// The lines of the AND of three inputs as digits: inputs, target and work lines.
+/// The lines of the AND of three inputs as digits, with a blank before the target and the work line.
 fn shown(lines: &[u8]) -> String {
-    let digits = |lines: &[u8]| lines.iter().map(u8::to_string).collect::<String>();
-    [&lines[..3], &lines[3..4], &lines[4..]].map(digits).join(" ")
+    let blank = |line: usize| if [3, 4].contains(&line) { " " } else { "" };
+    lines.iter().enumerate().map(|(line, bit)| format!("{}{bit}", blank(line))).collect()
 }
 
 /// A call on the AND of three inputs as the model has it: the lines before, the answer, the lines
 /// after.
 fn compiled_and_run(start: &[u8]) -> String {
     let file = shaped::program::and_of_three().bytes();
-    let (mut sizes, mut area, mut lines) = ([0; 5], [0; 100], start.to_vec());
+    let (mut sizes, mut area, mut lines) = ([0; 5], [0; 52], start.to_vec());
     let answer = model::compile::compile(&file, 1_024, &mut sizes, &mut area)
         .and_then(|length| model::run::forwards(&area[..length], &mut lines));
     let answer = match answer {
@@ -208,12 +211,12 @@ fn compiled_and_run(start: &[u8]) -> String {
 #[test]
 fn the_case_of_proved_code() {
     let starts: [&[u8]; 6] = [
-        &[1, 1, 1, 0, 0, 0, 0, 0],
-        &[1, 1, 1, 1, 0, 0, 0, 0],
-        &[1, 0, 1, 1, 0, 0, 0, 0],
-        &[1, 1, 1, 0, 0, 1, 0, 0],
-        &[0, 0, 0, 0, 1, 0, 0, 1],
-        &[1, 1, 1, 0, 0, 0, 0],
+        &[1, 1, 1, 0, 0],
+        &[1, 1, 1, 1, 0],
+        &[1, 0, 1, 1, 0],
+        &[1, 1, 1, 0, 1],
+        &[0, 0, 1, 0, 1],
+        &[1, 1, 1, 0],
     ];
     let expected: String = starts.into_iter().map(compiled_and_run).collect();
     let text = repository::text("crates/end_to_end_case/stdout");
@@ -241,4 +244,5 @@ fn random_programs() {
     assert!(seen.values.iter().all(|count| *count > 20_000), "too few values of one kind");
     assert!(seen.most_lines > 1_000 && seen.most_gates > 7_000, "no large circuit");
     assert!(written > 10_000, "too few shares with work lines");
+    seen.ands.finish(200);
 }

@@ -8,8 +8,8 @@ use agreement::listing_cases::{self, Case, GRANT, MOST_INPUT};
 use agreement::{hex, repository, shaped};
 use model::listing::{listing, text};
 
-/// The six lines of the whole case, as 01 prints them.
-const WHOLE_CASE: &str = "lines 2 1 2 gates 5\nC 0 3\nC 1 4\nT 3 4 2\nC 1 4\nC 0 3\n";
+/// The two lines of the whole case, as 02 has them.
+const WHOLE_CASE: &str = "lines 2 1 0 gates 1\nT 0 1 2\n";
 
 #[test]
 fn every_file_is_as_it_is_made() {
@@ -71,8 +71,9 @@ fn the_other_examples() {
     assert!(stdout.starts_with("refused 1 0\n"), "empty input comes first");
     for text in [
         WHOLE_CASE,
-        "lines 3 1 4 gates 9\nC 0 5\nC 1 6\nT 5 6 4\nC 2 7\nT 4 7 3\n\
-         C 2 7\nT 5 6 4\nC 1 6\nC 0 5\n",
+        "lines 2 1 2 gates 9\nN 3\nC 0 3\nN 4\nC 1 4\nT 3 4 2\nC 1 4\nN 4\nC 0 3\nN 3\n",
+        "lines 3 1 1 gates 3\nT 0 1 4\nT 2 4 3\nT 0 1 4\n",
+        "lines 4 1 2 gates 5\nT 0 1 6\nT 2 6 5\nT 3 5 4\nT 2 6 5\nT 0 1 6\n",
         "lines 1 1 0 gates 2\nC 0 1\nC 0 1\nlines 0 1 0 gates 0\nlines 0 1 0 gates 1\nN 0\n",
     ] {
         assert_eq!(stdout.matches(text).count(), 1, "{text}");

@@ -1,5 +1,6 @@
 //! quote: the archive beside the model, both lent lists before and after included.
 
+use agreement::circuit::Circuit;
 use agreement::compare::compile::written;
 use agreement::compare::quote::{archive, compare, drawn as call, model, numbers, Case, OVER};
 use agreement::program::{self, and, input, not, times, xor, Node, Program, ONE, ZERO};
@@ -76,11 +77,11 @@ fn gives(name: &str, program: &Program, numbers: &[[u64; 3]]) {
 
 #[test]
 fn the_whole_case() {
-    // C 0 3, C 1 4, T 3 4 2, C 1 4, C 0 3 on the work lines 3 and 4.
-    gives("the whole case", &shaped::program::whole_case(), &[[5, 1, 2]]);
+    // T 0 1 2 alone.
+    gives("the whole case", &shaped::program::whole_case(), &[[1, 1, 0]]);
 
     let case = |counts, answers| Case::new(&shaped::program::WHOLE_CASE, counts, answers);
-    check("24 and 3 numbers", &case(24, 3), Ok(1), &[0; 24], &[5, 1, 2]);
+    check("24 and 3 numbers", &case(24, 3), Ok(1), &[0; 24], &[1, 1, 0]);
     refused("the counts short by a number", &case(23, 3), (7, 0));
     refused("the answers short by a number", &case(24, 2), (7, 0));
     refused("both short by a number", &case(23, 2), (7, 0));
@@ -89,27 +90,49 @@ fn the_whole_case() {
 #[test]
 fn the_other_examples() {
     gives("NOR", &shaped::program::nor(), &[[9, 1, 2]]);
-    gives("AND of three", &shaped::program::and_of_three(), &[[9, 3, 4]]);
-    gives("AND of four", &shaped::program::and_of_four(), &[[13, 5, 6]]);
+    gives("AND of three", &shaped::program::and_of_three(), &[[3, 3, 1]]);
+    gives("AND of four", &shaped::program::and_of_four(), &[[5, 5, 2]]);
     gives("XOR with itself", &shaped::program::xor_with_itself(), &[[2, 0, 0]]);
     gives("ZERO", &shaped::program::output_zero(), &[[0, 0, 0]]);
     gives("ONE", &Program::new(0, &[ONE], &[0]), &[[1, 0, 0]]);
 }
 
+/// The numbers of a circuit of one output.
+fn numbers_of(circuit: &Circuit) -> [u64; 3] {
+    let numbers = [circuit.gates.len(), circuit.toffolis().len(), circuit.work.into()];
+    numbers.map(|number| number as u64)
+}
+
+/// The gates of each circuit are written out. Where both operands are one input, it is a CNOT.
+#[test]
+fn every_kind_of_operand() {
+    for example in shaped::operands::of_one_output() {
+        gives(example.name, &example.program, &[numbers_of(&example.circuit)]);
+    }
+    let several = shaped::operands::of_several_outputs();
+    let numbers = [[1, 1, 0], [1, 1, 0], [1, 0, 0], [3, 3, 1], [1, 0, 0], [2, 0, 0], [2, 0, 0]];
+    gives(several.name, &several.program, &numbers);
+}
+
 /// A node is built anew at each use, on new lines. What is built into the target is not undone.
 #[test]
 fn shared_nodes_and_several_outputs() {
-    let nodes = [input(0), and(0, 0), xor(1, 1), not(2), and(3, 1), xor(4, 3)];
-    let numbers = [[1, 0, 0], [5, 1, 2], [10, 2, 4], [11, 2, 4], [21, 7, 8], [32, 9, 12]];
-    gives("each node", &Program::new(1, &nodes, &[0, 1, 2, 3, 4, 5]), &numbers);
-    gives("the last", &Program::new(1, &nodes, &[5]), &numbers[5..]);
+    let nodes = [input(0), input(1), and(0, 1), xor(2, 2), not(3), and(4, 2), xor(5, 4)];
+    let numbers = [[1, 0, 0], [1, 1, 0], [2, 2, 0], [3, 2, 0], [9, 7, 2], [12, 9, 2]];
+    gives("each node", &Program::new(2, &nodes, &[0, 2, 3, 4, 5, 6]), &numbers);
+    gives("the last", &Program::new(2, &nodes, &[6]), &numbers[5..]);
     let mixed = [numbers[4], numbers[0], numbers[4], numbers[2]];
-    gives("in another order", &Program::new(1, &nodes, &[4, 0, 4, 2]), &mixed);
+    gives("in another order", &Program::new(2, &nodes, &[5, 0, 5, 3]), &mixed);
 
-    // An AND takes two lines even where nothing is built into them.
+    // ZERO as an operand takes a line, even if nothing is built into it.
     let nodes = [ZERO, and(0, 0), and(1, 0), and(0, 1), and(1, 1)];
     let numbers = [[1, 1, 2], [3, 3, 4], [3, 3, 4], [5, 5, 6]];
     gives("ANDs of ZERO", &Program::new(0, &nodes, &[1, 2, 3, 4]), &numbers);
+
+    // An input takes none, on either side.
+    let nodes = [input(0), ZERO, ONE, and(0, 1), and(2, 0), and(3, 0), and(0, 4), and(3, 4)];
+    let numbers = [[1, 1, 1], [3, 1, 1], [3, 3, 2], [5, 3, 2], [7, 5, 4]];
+    gives("ANDs of an input", &Program::new(1, &nodes, &[3, 4, 5, 6, 7]), &numbers);
 }
 
 /// The content before has no part in the answers, and what is behind keeps every bit.
@@ -123,7 +146,7 @@ fn later_entries_keep_their_content() {
                 counts: vec![content; counts],
                 answers: vec![content; answers],
             };
-            answered("one content", &case, 3, &[[5, 1, 2]]);
+            answered("one content", &case, 3, &[[1, 1, 0]]);
         }
     }
 }
@@ -134,7 +157,7 @@ fn the_longest_lists() {
     gives("the longest file", &limits::longest_file(), &[[2, 0, 0]; 64]);
     gives("4,096 NOTs", &limits::deepest(), &[[4_096, 0, 0]]);
     let mut numbers = [[1, 0, 0]; 64];
-    numbers[63] = [2_049, 1_023, 1_024];
+    numbers[63] = [2_049, 2_049, 1_024];
     gives("1,152 lines", &limits::most_lines(), &numbers);
 }
 
@@ -160,82 +183,149 @@ fn xor_of_a_node_with_itself_4000_deep() {
     gives("XOR of ZERO", &Program::new(0, &doubled(ZERO, xor), &[4_000]), &[[0, 0, 0]]);
 
     // Depth d has 2^d times 5 gates, 1 Toffoli and 2 lines: no Toffoli is undone.
-    let mut nodes = vec![input(0), and(0, 0)];
-    nodes.extend((1..4_001).map(|before| xor(before, before)));
-    let outputs = [17, 18, 19, 20, 62, 63, 64, 4_000].map(|depth| depth + 1);
+    let of_and = |a: Node, b: Node| {
+        let mut nodes = vec![a, b, and(0, 1)];
+        nodes.extend((2..4_002).map(|before| xor(before, before)));
+        Program::new(2, &nodes, &[17, 18, 19, 20, 62, 63, 64, 4_000].map(|depth| depth + 2))
+    };
     let mut numbers = [[OVER; 3]; 8];
     numbers[0] = [655_360, 131_072, 262_144];
     numbers[1] = [OVER, 262_144, 524_288];
     numbers[2] = [OVER, 524_288, OVER];
-    gives("XOR of an AND", &Program::new(1, &nodes, &outputs), &numbers);
+    gives("XOR of an AND", &of_and(ONE, ONE), &numbers);
+
+    // The same of two inputs is 2^d Toffolis, of one 2^d CNOTs, and neither takes a line.
+    let mut numbers = [[OVER, OVER, 0]; 8];
+    numbers[0] = [131_072, 131_072, 0];
+    numbers[1] = [262_144, 262_144, 0];
+    numbers[2] = [524_288, 524_288, 0];
+    gives("XOR of an AND of inputs", &of_and(input(1), input(0)), &numbers);
+    let numbers = numbers.map(|[gates, ..]| [gates, 0, 0]);
+    gives("XOR of an AND of one input", &of_and(input(1), input(1)), &numbers);
+}
+
+/// The numbers of an AND of a node with itself so deep, over leaves with so many gates each and over
+/// ANDs with two work lines each. All but the last Toffoli are undone.
+fn of_depth(depth: u64, leaf_gates: u64) -> [u64; 3] {
+    let (leaves, toffolis): (u64, u64) = (1 << depth, (1 << depth) - 1);
+    let built = leaf_gates * leaves + toffolis;
+    [2 * built - 1, 2 * toffolis - 1, 2 * toffolis].map(|number| number.min(OVER))
 }
 
 #[test]
 fn and_of_a_node_with_itself_4000_deep() {
-    // Depth d is built with 2^(d + 1) - 1 gates, 2^d - 1 of them Toffolis, each with two lines. All
-    // but the last Toffoli are undone.
-    let of_depth = |depth: u64| {
-        let (built, toffolis): (u64, u64) = ((2 << depth) - 1, (1 << depth) - 1);
-        [2 * built - 1, 2 * toffolis - 1, 2 * toffolis].map(|number| number.min(OVER))
-    };
-    assert_eq!(of_depth(1), [5, 1, 2]);
-    assert_eq!(of_depth(17), [524_285, 262_141, 262_142]);
-    assert_eq!(of_depth(18), [OVER, 524_285, 524_286]);
-    assert_eq!(of_depth(19), [OVER; 3]);
-    let nodes = doubled(input(0), and);
+    assert_eq!(of_depth(1, 1), [5, 1, 2]);
+    assert_eq!(of_depth(17, 1), [524_285, 262_141, 262_142]);
+    assert_eq!(of_depth(18, 1), [OVER, 524_285, 524_286]);
+    assert_eq!(of_depth(19, 1), [OVER; 3]);
+    let nodes = doubled(ONE, and);
     let depths: Vec<u16> = (1..20).chain(DEPTHS).collect();
-    let mut numbers: Vec<[u64; 3]> = (1..20).map(of_depth).collect();
+    let mut numbers: Vec<[u64; 3]> = (1..20).map(|depth| of_depth(depth, 1)).collect();
     numbers.resize(depths.len(), [OVER; 3]);
-    gives("AND of an input", &Program::new(1, &nodes, &depths), &numbers);
+    gives("AND of ONE", &Program::new(0, &nodes, &depths), &numbers);
 
     let deepest = Program::new(0, &doubled(ZERO, and), &[18, 19, 4_000]);
-    gives("AND of ZERO", &deepest, &[[524_285, 524_285, 524_286], [OVER; 3], [OVER; 3]]);
+    gives("AND of ZERO", &deepest, &[of_depth(18, 0), [OVER; 3], [OVER; 3]]);
+    assert_eq!(of_depth(18, 0), [524_285, 524_285, 524_286]);
 
     // Depth d has 2^(d + 1) - 2 gates and 2^d - 2 Toffolis to undo: -2 in 32 or 64 bits, and 0 or
     // little more with those of a small operand beside it.
-    let mut nodes = nodes[..=64].to_vec();
-    let depths = [31, 32, 63, 64];
+    beside_small_operands(&nodes, [31, 32, 63, 64]);
+}
+
+/// The ANDs of an input with itself, one deep, are CNOTs and take the place of leaves.
+#[test]
+fn and_of_an_input_with_itself_4000_deep() {
+    let nodes = doubled(input(0), and);
+    let depths: Vec<u16> = (1..20).chain(DEPTHS).collect();
+    let mut numbers = vec![[1, 0, 0]];
+    numbers.extend((1..19).map(|above| of_depth(above, 1)));
+    numbers.resize(depths.len(), [OVER; 3]);
+    gives("AND of an input", &Program::new(1, &nodes, &depths), &numbers);
+
+    beside_small_operands(&nodes, [32, 33, 64, 65]);
+}
+
+/// ANDs of each of these depths with one of the first three nodes.
+fn beside_small_operands(nodes: &[Node], depths: [u16; 4]) {
+    let mut nodes = nodes[..=65].to_vec();
     nodes.extend(depths.iter().flat_map(|depth| [0, 1, 2].map(|beside| and(*depth, beside))));
-    let outputs: Vec<u16> = (65..nodes.len() as u16).collect();
+    let outputs: Vec<u16> = (66..nodes.len() as u16).collect();
     gives("AND of a small operand", &Program::new(1, &nodes, &outputs), &[[OVER; 3]; 12]);
 }
 
-/// INPUT 0, ZERO, and the ANDs of ZERO with itself, with the input and with the first AND; then one
-/// of these nodes so many times, and then more.
+/// The nodes that [`repeated`] starts with: an input, ZERO and ONE, and the ANDs of ZERO with itself,
+/// with ONE, with the first of these ANDs and with the input; and those of the input with itself and
+/// with another one.
+const NODES: [Node; 10] = [
+    input(0),
+    ZERO,
+    ONE,
+    input(1),
+    and(1, 1),
+    and(2, 1),
+    and(4, 1),
+    and(0, 1),
+    and(0, 0),
+    and(0, 3),
+];
+
+const AN_INPUT: u16 = 0;
+const OF_ZEROS: u16 = 4;
+const OF_ONE: u16 = 5;
+const OF_AND: u16 = 6;
+const OF_INPUT: u16 = 7;
+const OF_ONE_INPUT: u16 = 8;
+const OF_TWO_INPUTS: u16 = 9;
+
+/// One of these nodes so many times, and then more.
 fn repeated(node: u16, count: usize, more: &[fn(u16) -> Node]) -> Program {
-    let mut nodes = vec![input(0), ZERO, and(1, 1), and(0, 1), and(2, 1)];
+    let mut nodes = NODES.to_vec();
     let mut last = times(&mut nodes, node, count);
     for next in more {
         nodes.push(next(last));
         last = nodes.len() as u16 - 1;
     }
-    Program::new(1, &nodes, &[last])
+    Program::new(2, &nodes, &[last])
+}
+
+#[test]
+fn the_repeated_nodes() {
+    let outputs = [AN_INPUT, OF_ZEROS, OF_ONE, OF_AND, OF_INPUT, OF_ONE_INPUT, OF_TWO_INPUTS];
+    let numbers = [[1, 0, 0], [1, 1, 2], [3, 1, 2], [3, 3, 4], [1, 1, 1], [1, 0, 0], [1, 1, 0]];
+    gives("each", &Program::new(2, &NODES, &outputs), &numbers);
 }
 
 #[test]
 fn a_million_gates() {
-    let into_target = |count| repeated(0, count, &[]);
-    gives("999,999", &into_target(999_999), &[[999_999, 0, 0]]);
-    gives("1,000,000", &into_target(1_000_000), &[[1_000_000, 0, 0]]);
-    gives("1,000,001", &into_target(1_000_001), &[[1_000_001, 0, 0]]);
-    gives("1,000,002", &into_target(1_000_002), &[[1_000_001, 0, 0]]);
+    for node in [AN_INPUT, OF_ONE_INPUT] {
+        let into_target = |count| repeated(node, count, &[]);
+        gives("999,999", &into_target(999_999), &[[999_999, 0, 0]]);
+        gives("1,000,000", &into_target(1_000_000), &[[1_000_000, 0, 0]]);
+        gives("1,000,001", &into_target(1_000_001), &[[1_000_001, 0, 0]]);
+        gives("1,000,002", &into_target(1_000_002), &[[1_000_001, 0, 0]]);
+    }
 
-    // Gates into the first or the second line of an AND, all of them undone, and its Toffoli.
-    for above in [|a| and(a, 1), |a| and(1, a)] {
-        let undone = |count| repeated(0, count, &[above]);
-        gives("999,997", &undone(499_998), &[[999_997, 1, 2]]);
-        gives("999,999", &undone(499_999), &[[999_999, 1, 2]]);
-        gives("1,000,001", &undone(500_000), &[[1_000_001, 1, 2]]);
-        gives("1,000,003", &undone(500_001), &[[1_000_001, 1, 2]]);
+    // Gates into the first or the second line of an AND, or the only one beside an input, all of them
+    // undone, and its Toffoli.
+    type Above = fn(u16) -> Node;
+    let above: [(Above, u64); 4] =
+        [(|a| and(a, 1), 2), (|a| and(1, a), 2), (|a| and(a, 3), 1), (|a| and(3, a), 1)];
+    for (above, lines) in above {
+        let undone = |count| repeated(AN_INPUT, count, &[above]);
+        gives("999,997", &undone(499_998), &[[999_997, 1, lines]]);
+        gives("999,999", &undone(499_999), &[[999_999, 1, lines]]);
+        gives("1,000,001", &undone(500_000), &[[1_000_001, 1, lines]]);
+        gives("1,000,003", &undone(500_001), &[[1_000_001, 1, lines]]);
         for one_more in [not, |a| xor(a, 0), |a| xor(0, a)] {
-            let even = |count| repeated(0, count, &[above, one_more]);
-            gives("1,000,000", &even(499_999), &[[1_000_000, 1, 2]]);
-            gives("1,000,002", &even(500_000), &[[1_000_001, 1, 2]]);
+            let even = |count| repeated(AN_INPUT, count, &[above, one_more]);
+            gives("1,000,000", &even(499_999), &[[1_000_000, 1, lines]]);
+            gives("1,000,002", &even(500_000), &[[1_000_001, 1, lines]]);
         }
     }
 
     // As many into the target as into a line, where they are undone.
-    let both = |count| repeated(0, count, &[|a| and(a, 1), |a| xor(a, a - 1)]);
+    let both = |count| repeated(AN_INPUT, count, &[|a| and(a, 1), |a| xor(a, a - 1)]);
     gives("1,000,000", &both(333_333), &[[1_000_000, 1, 2]]);
     gives("1,000,003", &both(333_334), &[[1_000_001, 1, 2]]);
 }
@@ -243,39 +333,52 @@ fn a_million_gates() {
 /// Every gate here is a Toffoli.
 #[test]
 fn a_million_toffolis() {
-    let into_target = |count| repeated(2, count, &[]);
-    gives("999,999", &into_target(999_999), &[[999_999, 999_999, OVER]]);
-    gives("1,000,000", &into_target(1_000_000), &[[1_000_000, 1_000_000, OVER]]);
-    gives("1,000,001", &into_target(1_000_001), &[[1_000_001, 1_000_001, OVER]]);
-    gives("1,000,002", &into_target(1_000_002), &[[1_000_001, 1_000_001, OVER]]);
+    for (node, lines) in [(OF_ZEROS, OVER), (OF_TWO_INPUTS, 0)] {
+        let into_target = |count| repeated(node, count, &[]);
+        gives("999,999", &into_target(999_999), &[[999_999, 999_999, lines]]);
+        gives("1,000,000", &into_target(1_000_000), &[[1_000_000, 1_000_000, lines]]);
+        gives("1,000,001", &into_target(1_000_001), &[[1_000_001, 1_000_001, lines]]);
+        gives("1,000,002", &into_target(1_000_002), &[[1_000_001, 1_000_001, lines]]);
+    }
 
     for above in [|a| and(a, 1), |a| and(1, a)] {
-        let undone = |count| repeated(2, count, &[above]);
+        let undone = |count| repeated(OF_ZEROS, count, &[above]);
         gives("999,999", &undone(499_999), &[[999_999, 999_999, 1_000_000]]);
         gives("1,000,001", &undone(500_000), &[[1_000_001, 1_000_001, OVER]]);
-        let even = |count| repeated(2, count, &[above, |a| xor(a, 2)]);
+        let even = |count| repeated(OF_ZEROS, count, &[above, |a| xor(a, OF_ZEROS)]);
         gives("999,998", &even(499_998), &[[999_998, 999_998, 1_000_000]]);
         gives("1,000,000", &even(499_999), &[[1_000_000, 1_000_000, OVER]]);
         gives("1,000,002", &even(500_000), &[[1_000_001, 1_000_001, OVER]]);
     }
 }
 
-/// There are two lines for each AND, and so no odd number of them.
+/// An AND has two lines, beside an input one.
 #[test]
 fn a_million_work_lines() {
-    let into_target = |count| repeated(2, count, &[]);
+    let into_target = |count| repeated(OF_ZEROS, count, &[]);
     gives("999,998", &into_target(499_999), &[[499_999, 499_999, 999_998]]);
     gives("1,000,000", &into_target(500_000), &[[500_000, 500_000, 1_000_000]]);
     gives("1,000,002", &into_target(500_001), &[[500_001, 500_001, 1_000_001]]);
+    let one_each = |count| repeated(OF_INPUT, count, &[]);
+    gives("999,999", &one_each(999_999), &[[999_999; 3]]);
+    gives("1,000,000", &one_each(1_000_000), &[[1_000_000; 3]]);
+    gives("1,000,001", &one_each(1_000_001), &[[1_000_001; 3]]);
 
-    // The lines of one operand beside those of the other, and the two of the last AND.
-    let last = |next: fn(u16) -> Node, count| repeated(2, count, &[next]);
+    // The lines of one operand beside those of the other, and those of the last AND.
+    let last = |next: fn(u16) -> Node, count| repeated(OF_ZEROS, count, &[next]);
     gives("999,998", &last(|a| and(a, a), 249_999), &[[999_997, 999_997, 999_998]]);
     gives("1,000,002", &last(|a| and(a, a), 250_000), &[[1_000_001; 3]]);
     gives("1,000,000", &last(|a| xor(a, a), 250_000), &[[500_000, 500_000, 1_000_000]]);
     gives("1,000,004", &last(|a| xor(a, a), 250_001), &[[500_002, 500_002, 1_000_001]]);
     gives("1,000,000", &last(|a| and(a, 1), 499_999), &[[999_999, 999_999, 1_000_000]]);
-    gives("1,000,002", &last(|a| xor(2, a), 500_000), &[[500_001, 500_001, 1_000_001]]);
+    gives("1,000,002", &last(|a| xor(OF_ZEROS, a), 500_000), &[[500_001, 500_001, 1_000_001]]);
+    for beside_an_input in [|a| and(a, 0), |a| and(0, a)] {
+        gives("999,999", &last(beside_an_input, 499_999), &[[999_999; 3]]);
+        gives("1,000,001", &last(beside_an_input, 500_000), &[[1_000_001; 3]]);
+    }
+    let one_more = |a| xor(a, OF_INPUT);
+    gives("999,999", &last(one_more, 499_999), &[[500_000, 500_000, 999_999]]);
+    gives("1,000,001", &last(one_more, 500_000), &[[500_001, 500_001, 1_000_001]]);
 }
 
 /// Numbers that are small in 32 or 64 bits, or added to another one there, are over all the same.
@@ -284,19 +387,27 @@ fn numbers_that_are_small_in_fewer_bits() {
     for power in [31, 32, 62, 63] {
         for count in [(1 << power) - 1, 1 << power, (1 << power) + 1] {
             let of = |node| repeated(node, count, &[]);
-            gives("gates on the target", &of(0), &[[OVER, 0, 0]]);
-            gives("Toffolis on the target", &of(2), &[[OVER; 3]]);
-            gives("gates on both", &of(3), &[[OVER; 3]]);
-            gives("Toffolis on both", &of(4), &[[OVER; 3]]);
+            gives("gates on the target", &of(AN_INPUT), &[[OVER, 0, 0]]);
+            gives("ANDs of one input", &of(OF_ONE_INPUT), &[[OVER, 0, 0]]);
+            gives("Toffolis without lines", &of(OF_TWO_INPUTS), &[[OVER, OVER, 0]]);
+            gives("Toffolis on the target", &of(OF_ZEROS), &[[OVER; 3]]);
+            gives("Toffolis with one line", &of(OF_INPUT), &[[OVER; 3]]);
+            gives("gates on both", &of(OF_ONE), &[[OVER; 3]]);
+            gives("Toffolis on both", &of(OF_AND), &[[OVER; 3]]);
             let undone = |node| repeated(node, count, &[|a| and(1, a)]);
-            gives("gates on a work line", &undone(0), &[[OVER, 1, 2]]);
-            gives("Toffolis on a work line", &undone(2), &[[OVER; 3]]);
+            gives("gates on a work line", &undone(AN_INPUT), &[[OVER, 1, 2]]);
+            gives("ANDs of one input there", &undone(OF_ONE_INPUT), &[[OVER, 1, 2]]);
+            gives("Toffolis on a work line", &undone(OF_ZEROS), &[[OVER; 3]]);
+            let beside = |node| repeated(node, count, &[|a| and(a, 0)]);
+            gives("gates beside an input", &beside(AN_INPUT), &[[OVER, 1, 1]]);
+            gives("Toffolis beside an input", &beside(OF_TWO_INPUTS), &[[OVER, OVER, 1]]);
         }
     }
-    gives("2^64 - 1 gates", &repeated(0, usize::MAX, &[]), &[[OVER, 0, 0]]);
-    gives("2^64 gates", &repeated(0, usize::MAX, &[not]), &[[OVER, 0, 0]]);
-    gives("2^64 Toffolis", &repeated(2, usize::MAX, &[|a| xor(a, 2)]), &[[OVER; 3]]);
-    gives("2^64 gates to undo", &repeated(0, usize::MAX, &[not, |a| and(a, 1)]), &[[OVER, 1, 2]]);
+    let all = |node, more: &[fn(u16) -> Node]| repeated(node, usize::MAX, more);
+    gives("2^64 - 1 gates", &all(AN_INPUT, &[]), &[[OVER, 0, 0]]);
+    gives("2^64 gates", &all(AN_INPUT, &[not]), &[[OVER, 0, 0]]);
+    gives("2^64 Toffolis", &all(OF_ZEROS, &[|a| xor(a, OF_ZEROS)]), &[[OVER; 3]]);
+    gives("2^64 gates to undo", &all(AN_INPUT, &[not, |a| and(a, 1)]), &[[OVER, 1, 2]]);
 }
 
 /// Programs that compiling refuses, and what they are refused with.
@@ -308,17 +419,22 @@ fn programs_that_do_not_compile() {
     };
     let chain = shaped::program::xor_chain();
     refuses("size 16,385", &chain, (8, 2), &[[0, 0, 0], [1, 0, 0], [2, 0, 0]]);
-    let ands = Program::new(1, &doubled(input(0), and)[..15], &[14]);
-    refuses("size 32,767", &ands, (8, 0), &[[65_533, 32_765, 32_766]]);
+    let ands = |leaf: Node, depth: u16| {
+        Program::new(1, &doubled(leaf, and)[..=usize::from(depth)], &[depth])
+    };
+    refuses("size 32,767", &ands(ONE, 14), (8, 0), &[[65_533, 32_765, 32_766]]);
+    refuses("the same of an input", &ands(input(0), 14), (8, 0), &[[32_765, 16_381, 16_382]]);
 
-    let ands = Program::new(1, &doubled(input(0), and)[..14], &[13]);
-    refuses("16,382 lines", &ands, (10, 16_382), &[[32_765, 16_381, 16_382]]);
+    refuses("16,382 lines", &ands(ONE, 13), (10, 16_382), &[[32_765, 16_381, 16_382]]);
+    refuses("8,190 lines", &ands(input(0), 13), (10, 8_190), &[[16_381, 8_189, 8_190]]);
     for input_first in [false, true] {
-        let ands = limits::ands(513, input_first);
-        refuses("1,026 lines", &ands, (10, 1_026), &[[2_053, 1_025, 1_026]]);
-        let ands = limits::ands(2_047, input_first);
-        refuses("4,094 lines", &ands, (10, 4_094), &[[8_189, 4_093, 4_094]]);
+        let ands = limits::ands(1_026, input_first);
+        refuses("1,025 lines", &ands, (10, 1_025), &[[2_051, 2_051, 1_025]]);
+        let ands = limits::ands(4_032, input_first);
+        refuses("4,031 lines", &ands, (10, 4_031), &[[8_063, 8_063, 4_031]]);
     }
+    let ands = limits::ands_of_nots(513);
+    refuses("1,026 lines", &ands, (10, 1_026), &[[3_081, 1_025, 1_026]]);
 
     let numbers = [[8_000, 0, 0], [1, 0, 0]];
     refuses("8,001 gates", &limits::a_gate_too_many(), (11, 8_001), &numbers);
@@ -419,27 +535,15 @@ fn each_byte_of_the_whole_case_changed() {
     tally.finish(56 * 256 * 4, &[1, 2, 3, 4, 5, 6, 7]);
 }
 
-/// Every table of four nodes, each of them an output: 5,616 programs.
+/// Every table of four nodes over two inputs, each of them an output: 9,800 programs.
 #[test]
 fn every_small_table() {
-    let mut tables = vec![vec![]];
-    for i in 0..4 {
-        tables = tables.iter().flat_map(|table| longer_by_one(table, i)).collect();
-    }
     let mut tally = Tally::new("quote, every small table");
-    for nodes in tables {
-        let file = Program::new(1, &nodes, &[0, 1, 2, 3]).bytes();
+    for nodes in program::every_table(4) {
+        let file = Program::new(2, &nodes, &[0, 1, 2, 3]).bytes();
         tally.count(&compare(&Case::new(&file, 4 * ENTRY, 4 * ANSWER)));
     }
-    tally.finish(3 * 6 * 13 * 24, &[]);
-}
-
-/// The table with each node that can follow its first i.
-fn longer_by_one(table: &[Node], i: u16) -> Vec<Vec<Node>> {
-    let mut next = vec![ZERO, ONE, input(0)];
-    next.extend((0..i).map(not));
-    next.extend((0..i).flat_map(|a| (0..i).flat_map(move |b| [xor(a, b), and(a, b)])));
-    next.into_iter().map(|node| [table, &[node]].concat()).collect()
+    tally.finish(4 * 7 * 14 * 25, &[]);
 }
 
 #[test]

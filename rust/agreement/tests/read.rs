@@ -120,6 +120,8 @@ fn each_byte_of_a_program_changed() {
 #[test]
 fn each_byte_of_a_circuit_changed() {
     each_change(&CIRCUIT, &shaped::circuit::WHOLE_CASE, &[1, 2, 4, 12]);
+    // With work lines, and gates of every kind.
+    each_change(&CIRCUIT, &shaped::circuit::nor().bytes(), &[1, 2, 4, 12]);
 }
 
 /// Good files, which the model has to accept, and damaged ones.

@@ -29,24 +29,58 @@ fn refuses(name: &str, file: &[u8], lines: &[u8], refusal: (u64, u64)) {
     }
 }
 
-/// The whole case is the same from both ends, so both directions give the same.
+/// A circuit that is the same from both ends, so that both directions give the same.
+fn gives_both_ways(name: &str, circuit: &Circuit, lines: &[u8], after: &[u8]) {
+    for direction in [Forwards, Backwards] {
+        gives(name, direction, circuit, lines, after);
+    }
+}
+
 #[test]
 fn the_whole_case_on_all_inputs() {
     let circuit = shaped::circuit::whole_case();
-    let check = |lines: [u8; 5], after: [u8; 5]| {
-        for direction in [Forwards, Backwards] {
-            gives("the whole case", direction, &circuit, &lines, &after);
-        }
+    let check = |lines: [u8; 3], after: [u8; 3]| {
+        gives_both_ways("the whole case", &circuit, &lines, &after);
     };
-    check([0, 0, 0, 0, 0], [0, 0, 0, 0, 0]);
-    check([0, 1, 0, 0, 0], [0, 1, 0, 0, 0]);
-    check([1, 0, 0, 0, 0], [1, 0, 0, 0, 0]);
-    check([1, 1, 0, 0, 0], [1, 1, 1, 0, 0]);
-    check([0, 0, 1, 0, 0], [0, 0, 1, 0, 0]);
-    check([0, 1, 1, 0, 0], [0, 1, 1, 0, 0]);
+    check([0, 0, 0], [0, 0, 0]);
+    check([0, 1, 0], [0, 1, 0]);
+    check([1, 0, 0], [1, 0, 0]);
+    check([1, 1, 0], [1, 1, 1]);
+    check([0, 0, 1], [0, 0, 1]);
+    check([0, 1, 1], [0, 1, 1]);
+    check([1, 0, 1], [1, 0, 1]);
+    check([1, 1, 1], [1, 1, 0]);
+}
+
+#[test]
+fn and_of_three_inputs() {
+    let circuit = shaped::circuit::and_of_three();
+    let check = |lines: [u8; 5], after: [u8; 5]| {
+        gives_both_ways("AND of three", &circuit, &lines, &after);
+    };
+    check([1, 1, 1, 0, 0], [1, 1, 1, 1, 0]);
+    check([1, 1, 1, 1, 0], [1, 1, 1, 0, 0]);
+    check([1, 1, 0, 0, 0], [1, 1, 0, 0, 0]);
     check([1, 0, 1, 0, 0], [1, 0, 1, 0, 0]);
-    check([1, 1, 1, 0, 0], [1, 1, 0, 0, 0]);
+    check([0, 1, 1, 1, 0], [0, 1, 1, 1, 0]);
     // A work line that starts at 1 stays 1, and the AND is not that of the inputs.
+    check([1, 1, 1, 1, 1], [1, 1, 1, 1, 1]);
+    check([1, 1, 1, 0, 1], [1, 1, 1, 0, 1]);
+    check([0, 1, 1, 0, 1], [0, 1, 1, 1, 1]);
+    check([0, 0, 1, 1, 1], [0, 0, 1, 0, 1]);
+    check([0, 0, 0, 1, 1], [0, 0, 0, 1, 1]);
+}
+
+#[test]
+fn and_of_copies_of_two_inputs() {
+    let circuit = shaped::circuit::and_of_copies();
+    let check = |lines: [u8; 5], after: [u8; 5]| {
+        gives_both_ways("AND of copies", &circuit, &lines, &after);
+    };
+    check([0, 1, 0, 0, 0], [0, 1, 0, 0, 0]);
+    check([1, 0, 1, 0, 0], [1, 0, 1, 0, 0]);
+    check([1, 1, 0, 0, 0], [1, 1, 1, 0, 0]);
+    check([1, 1, 1, 0, 0], [1, 1, 0, 0, 0]);
     check([1, 1, 1, 1, 0], [1, 1, 1, 1, 0]);
     check([0, 1, 0, 1, 0], [0, 1, 1, 1, 0]);
     check([1, 1, 0, 0, 1], [1, 1, 0, 0, 1]);
@@ -61,18 +95,13 @@ fn the_other_examples() {
     gives("NOR 1 0", Forwards, &nor, &[1, 0, 1, 0, 0], &[1, 0, 1, 0, 0]);
     gives("NOR 1 1", Forwards, &nor, &[1, 1, 1, 0, 0], &[1, 1, 1, 0, 0]);
 
-    let three = shaped::circuit::and_of_three();
-    gives("AND 1 1 1", Forwards, &three, &[1, 1, 1, 0, 0, 0, 0, 0], &[1, 1, 1, 1, 0, 0, 0, 0]);
-    gives("AND 1 1 0", Forwards, &three, &[1, 1, 0, 0, 0, 0, 0, 0], &[1, 1, 0, 0, 0, 0, 0, 0]);
-    gives("AND 0 1 1", Forwards, &three, &[0, 1, 1, 1, 0, 0, 0, 0], &[0, 1, 1, 1, 0, 0, 0, 0]);
-
     let four = shaped::circuit::and_of_four_built();
-    let built = [1, 1, 1, 1, 1, 1, 1, 1, 1, 1, 1];
-    let inputs = [1, 1, 1, 1, 0, 0, 0, 0, 0, 0, 0];
+    let built = [1, 1, 1, 1, 1, 1, 1];
+    let inputs = [1, 1, 1, 1, 0, 0, 0];
     gives("AND 1 1 1 1, built", Forwards, &four, &inputs, &built);
     gives("AND 1 1 1 1, built", Backwards, &four, &built, &inputs);
     // Backwards from the inputs, each gate runs before what it needs.
-    gives("AND 1 1 1 1", Backwards, &four, &inputs, &[1, 1, 1, 1, 0, 0, 0, 1, 1, 1, 1]);
+    gives("AND 1 1 1 1", Backwards, &four, &inputs, &[1, 1, 1, 1, 0, 0, 1]);
 
     let zero = Circuit::new(0, 1, 0, &[]);
     gives("output ZERO", Forwards, &zero, &[1], &[1]);
@@ -226,20 +255,31 @@ fn shaped_files_accepted_by_the_reader() {
 }
 
 /// Every one-byte change of a small file. No such change gives cause 3.
-#[test]
-fn each_byte_of_the_whole_case_changed() {
-    let mut tally = Tally::new("run, one byte changed");
-    for file in damage::each_byte_changed(&shaped::circuit::WHOLE_CASE) {
+fn each_byte_changed(service: &'static str, file: &[u8], lines: &[u8]) {
+    let mut tally = Tally::new(service);
+    for file in damage::each_byte_changed(file) {
         // As many lines as the changed file has, where it is one.
-        let count = model::circuit::read(&file).map_or(5, |circuit| circuit.lines());
-        let mut lines = vec![1; count];
-        lines[count / 2] = 0;
+        let count = model::circuit::read(&file).map_or(lines.len(), |circuit| circuit.lines());
+        let mut fitting = vec![1; count];
+        fitting[count / 2] = 0;
         for direction in [Forwards, Backwards] {
-            tally.count(&compare(direction, &file, &lines).0);
-            tally.count(&compare(direction, &file, &[1, 1, 0, 1, 0]).0);
+            tally.count(&compare(direction, &file, &fitting).0);
+            tally.count(&compare(direction, &file, lines).0);
         }
     }
-    tally.finish(68 * 256 * 4, &[1, 2, 4, 12, 13]);
+    tally.finish(file.len() as u64 * 256 * 4, &[1, 2, 4, 12, 13]);
+}
+
+#[test]
+fn each_byte_of_the_whole_case_changed() {
+    each_byte_changed("run, one byte changed", &shaped::circuit::WHOLE_CASE, &[1, 1, 0]);
+}
+
+/// The same of a file with work lines and gates of every kind.
+#[test]
+fn each_byte_of_nor_changed() {
+    let nor = shaped::circuit::nor().bytes();
+    each_byte_changed("run, one byte of NOR changed", &nor, &[1, 1, 0, 1, 0]);
 }
 
 /// Holds for the archive by itself, whatever the model says.

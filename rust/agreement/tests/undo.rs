@@ -52,6 +52,18 @@ fn refuses(name: &str, file: &[u8], choices: &[u8], refusal: (u64, u64)) {
 #[test]
 fn the_whole_case() {
     let circuit = shaped::circuit::whole_case();
+    let only = [toffoli(0, 1, 2)];
+    leaves("none chosen", &circuit, &[], &only);
+    leaves("line 0 chosen", &circuit, &[0], &only);
+    leaves("line 1 chosen", &circuit, &[1], &only);
+    leaves("line 2 chosen", &circuit, &[2], &[]);
+    leaves("lines 0 and 1 chosen", &circuit, &[0, 1], &only);
+    leaves("all chosen", &circuit, &[0, 1, 2], &[]);
+}
+
+#[test]
+fn and_of_copies_of_two_inputs() {
+    let circuit = shaped::circuit::and_of_copies();
     let (first, second, toffoli) = (cnot(0, 3), cnot(1, 4), toffoli(3, 4, 2));
     let all = [first, second, toffoli, second, first];
     leaves("none chosen", &circuit, &[], &all);
@@ -68,14 +80,16 @@ fn the_whole_case() {
 /// The second half of a share is its first half undone except on the target.
 #[test]
 fn a_share_is_cleaned_by_undoing() {
-    let whole = shaped::circuit::and_of_three();
-    let (build, clean) = whole.gates.split_at(5);
-    let built = Circuit::new(3, 1, 4, build);
-    leaves("AND of three, target chosen", &built, &[3], clean);
+    let three = shaped::circuit::and_of_three();
+    let (build, clean) = three.gates.split_at(2);
+    leaves("AND of three, target chosen", &Circuit::new(3, 1, 1, build), &[3], clean);
+
+    let nor = shaped::circuit::nor();
+    let (build, clean) = nor.gates.split_at(5);
+    leaves("NOR, target chosen", &Circuit::new(2, 1, 2, build), &[2], clean);
 
     let four = shaped::circuit::and_of_four_built();
-    let clean =
-        [cnot(3, 10), toffoli(6, 9, 5), cnot(2, 9), toffoli(7, 8, 6), cnot(1, 8), cnot(0, 7)];
+    let clean = [toffoli(2, 6, 5), toffoli(0, 1, 6)];
     leaves("AND of four, target chosen", &four, &[4], &clean);
 }
 
@@ -213,31 +227,48 @@ fn shaped_files_accepted_by_the_reader() {
     tally.finish(500, &[11]);
 }
 
-/// Every one-byte change of a small file. No such change gives cause 3.
-#[test]
-fn each_byte_of_the_whole_case_changed() {
-    let mut tally = Tally::new("undo, one byte changed");
-    for file in damage::each_byte_changed(&shaped::circuit::WHOLE_CASE) {
+/// Every one-byte change of a small file, with this line chosen and an area long enough or shorter
+/// than what then remains, and with none chosen. No such change gives cause 3.
+fn each_byte_changed(service: &'static str, circuit: &Circuit, chosen: usize, short: usize) {
+    let mut tally = Tally::new(service);
+    let file = circuit.bytes();
+    let length = file.len();
+    for file in damage::each_byte_changed(&file) {
         // As many choices as the changed file has lines, where it is one.
-        let lines = model::circuit::read(&file).map_or(5, |circuit| circuit.lines());
-        let mut choices = vec![0; lines];
-        choices[3] = 1;
-        for (choices, length) in [(choices.clone(), 68), (choices, 51), (vec![0; 5], 68)] {
+        let read = model::circuit::read(&file);
+        let lines = read.map_or(circuit.lines(), |circuit| circuit.lines());
+        let mut choices = vec![0; lines.max(chosen + 1)];
+        choices[chosen] = 1;
+        let none = vec![0; circuit.lines()];
+        for (choices, length) in [(choices.clone(), length), (choices, short), (none, length)] {
             let area = vec![9; length];
             tally.count(&compare(&Case { file: file.clone(), choices, area }));
         }
     }
-    tally.finish(68 * 256 * 3, &[1, 2, 4, 11, 12, 13]);
+    tally.finish(length as u64 * 256 * 3, &[1, 2, 4, 11, 12, 13]);
+}
+
+#[test]
+fn each_byte_of_the_whole_case_changed() {
+    each_byte_changed("undo, one byte changed", &shaped::circuit::whole_case(), 1, 35);
+}
+
+/// The same of a file with work lines and gates of every kind.
+#[test]
+fn each_byte_of_nor_changed() {
+    each_byte_changed("undo, one byte of NOR changed", &shaped::circuit::nor(), 3, 67);
 }
 
 /// 01's slip: undone in forward order, line 5 would stay 1.
 #[test]
 fn the_work_lines_of_four_inputs_are_cleaned() {
-    let file = shaped::circuit::and_of_four_built().bytes();
-    let built = after(&file, &[1, 1, 1, 1, 0, 0, 0, 0, 0, 0, 0]);
-    assert_eq!(built, [1; 11]);
-    let cleaned = after(&undone(&file, &[0, 0, 0, 0, 1, 0, 0, 0, 0, 0, 0]), &built);
-    assert_eq!(cleaned, [1, 1, 1, 1, 1, 0, 0, 0, 0, 0, 0]);
+    let built = shaped::circuit::and_of_four_built();
+    let lines = after(&built.bytes(), &[1, 1, 1, 1, 0, 0, 0]);
+    assert_eq!(lines, [1; 7]);
+    let cleaned = after(&undone(&built.bytes(), &[0, 0, 0, 0, 1, 0, 0]), &lines);
+    assert_eq!(cleaned, [1, 1, 1, 1, 1, 0, 0]);
+    let forward = Circuit::new(4, 1, 2, &built.gates[..2]);
+    assert_eq!(after(&forward.bytes(), &lines), [1, 1, 1, 1, 1, 1, 0]);
 }
 
 /// A random circuit and choices such that no chosen line is a control.

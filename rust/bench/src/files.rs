@@ -39,18 +39,25 @@ pub fn small_outputs(random: &mut Random) -> Vec<u8> {
     with_gates(128, &nodes, &outputs)
 }
 
-/// An output for each 125 gates, with a tree of 31 ANDs of its own.
+/// An output for each 125 gates, with a tree of 31 ANDs of its own. Of its leaves, 16 are inputs,
+/// which are controls themselves, and 16 are NOTs of inputs, which are built with two gates each.
 pub fn and_trees(random: &mut Random, gates: usize) -> Vec<u8> {
     let mut nodes = inputs();
-    let outputs: Vec<u16> =
-        (0..gates / 125).map(|_| add_tree(random, &mut nodes, and, 32)).collect();
+    nodes.extend((0..INPUTS as u16).map(program::not));
+    let tree = |_| {
+        let nots = some_inputs(random, 16).into_iter().map(|input| INPUTS as u16 + input);
+        let leaves = nots.chain(some_inputs(random, 16)).collect();
+        add_tree(random, &mut nodes, and, leaves)
+    };
+    let outputs: Vec<u16> = (0..gates / 125).map(tree).collect();
     with_gates(gates, &nodes, &outputs)
 }
 
 /// One output of 8,000 gates: a tree of 1,999 XORs, which is built four times.
 pub fn xor_tree(random: &mut Random) -> Vec<u8> {
     let mut nodes = inputs();
-    let root = add_tree(random, &mut nodes, xor, 2000);
+    let leaves = some_inputs(random, 2000);
+    let root = add_tree(random, &mut nodes, xor, leaves);
     let output = four_times(&mut nodes, root);
     with_gates(8000, &nodes, &[output])
 }
@@ -58,7 +65,8 @@ pub fn xor_tree(random: &mut Random) -> Vec<u8> {
 /// 64 outputs of size 16,384: NOT of a tree of 2,047 XORs, which is counted four times for each.
 pub fn largest_outputs(random: &mut Random) -> Vec<u8> {
     let mut nodes = inputs();
-    let root = add_tree(random, &mut nodes, xor, 2048);
+    let leaves = some_inputs(random, 2048);
+    let root = add_tree(random, &mut nodes, xor, leaves);
     let below = four_times(&mut nodes, root);
     let output = add(&mut nodes, program::not(below));
     with_gates(64 * 8193, &nodes, &[output; 64])
@@ -86,20 +94,24 @@ fn an_input(random: &mut Random) -> u16 {
     random.below(INPUTS) as u16
 }
 
+fn some_inputs(random: &mut Random, count: usize) -> Vec<u16> {
+    (0..count).map(|_| an_input(random)).collect()
+}
+
 /// Adds a node, and gives its number.
 fn add(nodes: &mut Vec<Node>, node: Node) -> u16 {
     nodes.push(node);
     nodes.len() as u16 - 1
 }
 
-/// Adds a random tree of such nodes over so many random inputs, and gives the number of its root.
+/// Adds a random tree of such nodes over these leaves, and gives the number of its root.
 fn add_tree(
     random: &mut Random,
     nodes: &mut Vec<Node>,
     of: fn(u16, u16) -> Node,
-    leaves: usize,
+    leaves: Vec<u16>,
 ) -> u16 {
-    let mut roots: Vec<u16> = (0..leaves).map(|_| an_input(random)).collect();
+    let mut roots = leaves;
     while roots.len() > 1 {
         let [a, b] = [(); 2].map(|()| roots.swap_remove(random.below(roots.len())));
         roots.push(add(nodes, of(a, b)));

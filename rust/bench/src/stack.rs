@@ -26,7 +26,16 @@ const SHAPES: [Shape; 6] = [
     ("XOR of a leaf and the one before", |before| xor(0, before)),
     ("AND of the one before and a leaf (refused 10)", |before| and(before, 0)),
     ("AND of a leaf and the one before (refused 10)", |before| and(0, before)),
-    ("512 such ANDs, then NOTs", |before| if before < 512 { and(0, before) } else { not(before) }),
+    (
+        "1,025 such ANDs, then NOTs",
+        |before| {
+            if before < 1_025 {
+                and(0, before)
+            } else {
+                not(before)
+            }
+        },
+    ),
 ];
 
 fn shape(index: usize) -> Program {

@@ -159,8 +159,17 @@ fn put_u16(file: &mut Vec<u8>, number: usize) {
 mod tests {
     use super::*;
 
-    /// The circuit of the whole case of 01.
-    const AND: [u8; 68] = [
+    /// The circuit of the whole case of 01, as 02's A5 has it: T 0 1 2.
+    const WHOLE_CASE: [u8; 36] = [
+        2, 0, //
+        17, 0, 22, 0, 0, 0, 6, 0, 0, 0, //
+        18, 0, 28, 0, 0, 0, 8, 0, 0, 0, //
+        2, 0, 1, 0, 0, 0, //
+        3, 0, 0, 0, 1, 0, 2, 0,
+    ];
+
+    /// The AND of two inputs from copies of them, with gates of two kinds and work lines.
+    const COPIES: [u8; 68] = [
         2, 0, //
         17, 0, 22, 0, 0, 0, 6, 0, 0, 0, //
         18, 0, 28, 0, 0, 0, 40, 0, 0, 0, //
@@ -172,14 +181,14 @@ mod tests {
         2, 0, 0, 0, 0, 0, 3, 0,
     ];
 
-    fn and() -> Circuit {
+    fn copies() -> Circuit {
         let (first, second) = (Gate::Cnot(0, 3), Gate::Cnot(1, 4));
         let gates = vec![first, second, Gate::Toffoli(3, 4, 2), second, first];
         Circuit { inputs: 2, outputs: 1, work: 2, gates }
     }
 
     fn with(changes: &[(usize, u8)]) -> Result<Circuit, Refusal> {
-        let mut file = AND;
+        let mut file = COPIES;
         for &(at, byte) in changes {
             file[at] = byte;
         }
@@ -191,9 +200,13 @@ mod tests {
     }
 
     #[test]
-    fn the_whole_case_is_read_and_written() {
-        assert_eq!(read(&AND), Ok(and()));
-        assert_eq!(write(&and()), AND);
+    fn files_are_read_and_written() {
+        let gates = vec![Gate::Toffoli(0, 1, 2)];
+        let whole_case = Circuit { inputs: 2, outputs: 1, work: 0, gates };
+        assert_eq!(read(&WHOLE_CASE), Ok(whole_case.clone()));
+        assert_eq!(write(&whole_case), WHOLE_CASE);
+        assert_eq!(read(&COPIES), Ok(copies()));
+        assert_eq!(write(&copies()), COPIES);
     }
 
     #[test]
@@ -209,7 +222,7 @@ mod tests {
     #[test]
     fn a_table_that_is_not_there_is_cause_1() {
         for length in [0, 1, 2, 21] {
-            assert_eq!(read(&AND[..length]), refused(1, 0));
+            assert_eq!(read(&COPIES[..length]), refused(1, 0));
         }
         assert_eq!(with(&[(0, 3)]), refused(1, 0));
         assert_eq!(with(&[(1, 1)]), refused(1, 0));
@@ -217,11 +230,11 @@ mod tests {
 
     #[test]
     fn a_wrong_tag_start_or_end_is_cause_2() {
-        assert_eq!(read(&AND[..22]), refused(2, 0));
-        assert_eq!(read(&AND[..67]), refused(2, 0));
-        assert_eq!(read(&[&AND[..], &[0]].concat()), refused(2, 0));
+        assert_eq!(read(&COPIES[..22]), refused(2, 0));
+        assert_eq!(read(&COPIES[..67]), refused(2, 0));
+        assert_eq!(read(&[&COPIES[..], &[0]].concat()), refused(2, 0));
         for at in [2, 4, 8, 12, 14, 18] {
-            assert_eq!(with(&[(at, AND[at] + 1)]), refused(2, 0));
+            assert_eq!(with(&[(at, COPIES[at] + 1)]), refused(2, 0));
         }
         // The first body ends at 2^32 + 20, the second starts at 20.
         let wrapped = [(8, 0xfe), (9, 0xff), (10, 0xff), (11, 0xff), (14, 20), (18, 48)];
@@ -234,14 +247,14 @@ mod tests {
         assert_eq!(with(&[(8, 7), (14, 29), (18, 39), (22, 65)]), refused(3, 0));
         assert_eq!(with(&[(8, 14), (14, 36), (18, 32), (22, 65)]), refused(3, 0));
         assert_eq!(with(&[(8, 5), (14, 27), (18, 41), (22, 65)]), refused(3, 0));
-        let mut file = AND[..67].to_vec();
+        let mut file = COPIES[..67].to_vec();
         file[18] = 39;
         assert_eq!(read(&file), refused(3, 0));
     }
 
     #[test]
     fn eight_thousand_gates_are_the_most() {
-        let circuit = |count| Circuit { gates: vec![Gate::Not(1); count], ..and() };
+        let circuit = |count| Circuit { gates: vec![Gate::Not(1); count], ..copies() };
         assert_eq!(read(&write(&circuit(8000))), Ok(circuit(8000)));
         assert_eq!(read(&write(&circuit(8001))), refused(3, 0));
     }
@@ -253,7 +266,7 @@ mod tests {
         assert_eq!(with(&[(24, 0)]), refused(4, 0));
         assert_eq!(with(&[(24, 65)]), refused(4, 0));
         assert_eq!(with(&[(26, 1), (27, 4)]), refused(4, 0));
-        assert_eq!(with(&[(26, 0), (27, 4)]), Ok(Circuit { work: 1024, ..and() }));
+        assert_eq!(with(&[(26, 0), (27, 4)]), Ok(Circuit { work: 1024, ..copies() }));
     }
 
     #[test]
@@ -310,7 +323,7 @@ mod tests {
         assert_eq!(with_others(&[(66, 5)]), refused(12, 2));
 
         let (rising, falling) = (Gate::Toffoli(0, 1, 2), Gate::Toffoli(1, 0, 2));
-        let of = |gates: [Gate; 3]| read(&write(&Circuit { gates: gates.to_vec(), ..and() }));
+        let of = |gates: [Gate; 3]| read(&write(&Circuit { gates: gates.to_vec(), ..copies() }));
         assert!(of([rising; 3]).is_ok());
         assert_eq!(of([falling, rising, rising]), refused(12, 0));
         assert_eq!(of([rising, falling, rising]), refused(12, 1));

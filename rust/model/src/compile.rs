@@ -148,12 +148,25 @@ mod tests {
 
     #[test]
     fn the_whole_case() {
-        let gates = vec![Cnot(0, 3), Cnot(1, 4), Toffoli(3, 4, 2), Cnot(1, 4), Cnot(0, 3)];
-        let circuit = Circuit { inputs: 2, outputs: 1, work: 2, gates };
+        let circuit = Circuit { inputs: 2, outputs: 1, work: 0, gates: vec![Toffoli(0, 1, 2)] };
         gives(&whole_case(), &[1, 1, 3], &circuit);
-        assert_eq!(circuit::write(&circuit).len(), 68);
-        assert_eq!(refused(&whole_case(), 2, 3, 67), (11, 5, true, true));
-        assert_eq!(refused(&whole_case(), 1, 3, 68), (10, 2, true, false));
+        let written = circuit::write(&circuit);
+        assert_eq!(written.len(), 36);
+        for grant in 0..=1_024 {
+            let (mut sizes, mut area) = ([0; 3], [9; 36]);
+            assert_eq!(compile(&whole_case(), grant, &mut sizes, &mut area), Ok(36), "{grant}");
+            assert_eq!(area[..], written, "grant {grant}");
+            assert_eq!(refused(&whole_case(), grant, 3, 35), (11, 1, true, true));
+        }
+        assert_eq!(refused(&whole_case(), 1_025, 3, 36), (9, 0, true, false));
+    }
+
+    /// The gate is a CNOT, by one node or by two that name one input.
+    #[test]
+    fn and_of_an_input_with_itself() {
+        let circuit = Circuit { inputs: 2, outputs: 1, work: 0, gates: vec![Cnot(1, 2)] };
+        gives(&file(2, &[input(1), and(0, 0)], &[1]), &[1, 3], &circuit);
+        gives(&file(2, &[input(1), input(1), and(0, 1)], &[2]), &[1, 1, 3], &circuit);
     }
 
     #[test]
@@ -169,11 +182,11 @@ mod tests {
     #[test]
     fn and_of_three_inputs() {
         let three = file(3, &[input(0), input(1), and(0, 1), input(2), and(2, 3)], &[4]);
-        let build = [Cnot(0, 5), Cnot(1, 6), Toffoli(5, 6, 4), Cnot(2, 7), Toffoli(4, 7, 3)];
-        let clean = [Cnot(2, 7), Toffoli(5, 6, 4), Cnot(1, 6), Cnot(0, 5)];
-        let gates = [&build[..], &clean].concat();
-        gives(&three, &[1, 1, 3, 1, 5], &Circuit { inputs: 3, outputs: 1, work: 4, gates });
-        assert_eq!(refused(&three, 3, 5, 100), (10, 4, true, false));
+        let gates = vec![Toffoli(0, 1, 4), Toffoli(2, 4, 3), Toffoli(0, 1, 4)];
+        gives(&three, &[1, 1, 3, 1, 5], &Circuit { inputs: 3, outputs: 1, work: 1, gates });
+        assert_eq!(refused(&three, 0, 5, 100), (10, 1, true, false));
+        assert_eq!(refused(&three, 0, 5, 51), (10, 1, true, false));
+        assert_eq!(refused(&three, 1, 5, 51), (11, 3, true, true));
     }
 
     #[test]
@@ -229,7 +242,8 @@ mod tests {
         assert_eq!(refused(&large, 1_025, 16, 1), (8, 0, true, false));
         assert_eq!(refused(&whole_case(), 1_025, 3, 1), (9, 0, true, false));
         assert_eq!(refused(&whole_case(), u64::MAX, 3, 1), (9, 0, true, false));
-        assert_eq!(refused(&whole_case(), 0, 3, 1), (10, 2, true, false));
-        assert_eq!(refused(&whole_case(), 1_024, 3, 1), (11, 5, true, true));
+        let with_a_line = file(2, &[input(0), not(0), and(0, 1)], &[2]);
+        assert_eq!(refused(&with_a_line, 0, 3, 1), (10, 1, true, false));
+        assert_eq!(refused(&with_a_line, 1, 3, 1), (11, 5, true, true));
     }
 }

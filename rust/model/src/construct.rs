@@ -1,8 +1,10 @@
-//! The construction, from 01 and section 4.1 of 001: the gates of each output's share, and their
-//! numbers.
+//! The construction, from 01 with 02's A5 and section 4.1 of 001: the gates of each output's share,
+//! and their numbers.
 //!
 //! A node is unfolded at each use, so the time that all but [`sizes`] take grows with the unfolded
 //! size.
+
+use std::cmp::Ordering::{Equal, Greater, Less};
 
 use crate::circuit::{Circuit, Gate};
 use crate::program::{Node, Program};
@@ -94,13 +96,32 @@ impl Building<'_> {
                 self.xor_into(b, t);
             }
             Node::And(a, b) => {
-                let first = self.lines.take_lowest_free();
-                self.xor_into(a, first);
-                let second = self.lines.take_lowest_free();
-                self.xor_into(b, second);
-                self.gates.push(Gate::Toffoli(first, second, t));
+                let first = self.control(a);
+                let second = self.control(b);
+                self.gates.push(and_into(first, second, t));
             }
         }
+    }
+
+    /// The line that holds an operand of AND: an input's own, for any other node a work line that is
+    /// taken and built into.
+    fn control(&mut self, operand: usize) -> usize {
+        if let Node::Input(j) = self.nodes[operand] {
+            return j;
+        }
+        let line = self.lines.take_lowest_free();
+        self.xor_into(operand, line);
+        line
+    }
+}
+
+/// The gate that XORs the AND of two lines into t: the lower control comes first, and of a line with
+/// itself the AND is the line.
+fn and_into(first: usize, second: usize, t: usize) -> Gate {
+    match first.cmp(&second) {
+        Less => Gate::Toffoli(first, second, t),
+        Equal => Gate::Cnot(first, t),
+        Greater => Gate::Toffoli(second, first, t),
     }
 }
 
@@ -134,7 +155,12 @@ pub fn gate_count(nodes: &[Node], i: usize) -> usize {
         Node::One | Node::Input(_) => 1,
         Node::Not(a) => 1 + gate_count(nodes, a),
         Node::Xor(a, b) => gate_count(nodes, a) + gate_count(nodes, b),
-        Node::And(a, b) => gate_count(nodes, a) + gate_count(nodes, b) + 1,
+        Node::And(a, b) => match (nodes[a], nodes[b]) {
+            (Node::Input(_), Node::Input(_)) => 1,
+            (Node::Input(_), _) => gate_count(nodes, b) + 1,
+            (_, Node::Input(_)) => gate_count(nodes, a) + 1,
+            _ => gate_count(nodes, a) + gate_count(nodes, b) + 1,
+        },
     }
 }
 
@@ -155,7 +181,12 @@ pub fn work_lines(nodes: &[Node], i: usize) -> usize {
         Node::Zero | Node::One | Node::Input(_) => 0,
         Node::Not(a) => work_lines(nodes, a),
         Node::Xor(a, b) => work_lines(nodes, a) + work_lines(nodes, b),
-        Node::And(a, b) => 2 + work_lines(nodes, a) + work_lines(nodes, b),
+        Node::And(a, b) => match (nodes[a], nodes[b]) {
+            (Node::Input(_), Node::Input(_)) => 0,
+            (Node::Input(_), _) => 1 + work_lines(nodes, b),
+            (_, Node::Input(_)) => 1 + work_lines(nodes, a),
+            _ => 2 + work_lines(nodes, a) + work_lines(nodes, b),
+        },
     }
 }
 
@@ -173,7 +204,8 @@ pub fn most_work_lines(program: &Program) -> usize {
 #[cfg(test)]
 mod tests {
     use super::*;
-    use crate::{circuit, run};
+    use crate::program::tests::every_table;
+    use crate::{circuit, evaluate, run};
 
     use Gate::{Cnot, Not, Toffoli};
 
@@ -226,11 +258,38 @@ mod tests {
     #[test]
     fn the_whole_case() {
         let and = program(2, &[Node::Input(0), Node::Input(1), Node::And(0, 1)], &[2]);
-        let gates = [Cnot(0, 3), Cnot(1, 4), Toffoli(3, 4, 2), Cnot(1, 4), Cnot(0, 3)];
-        gives(&and, 2, &gates);
-        assert_eq!(circuit::write(&circuit(&and)).len(), 68);
-        assert_eq!(build(&and.nodes, 2, 2, 3), gates[..3]);
-        assert_eq!(build(&and.nodes, 2, 7, 20), [Cnot(0, 20), Cnot(1, 21), Toffoli(20, 21, 7)]);
+        gives(&and, 0, &[Toffoli(0, 1, 2)]);
+        assert_eq!(circuit::write(&circuit(&and)).len(), 36);
+        assert_eq!(ran(&circuit(&and), &[1, 1, 1]), [1, 1, 0]);
+        assert_eq!(build(&and.nodes, 2, 2, 3), [Toffoli(0, 1, 2)]);
+        assert_eq!(build(&and.nodes, 2, 7, 20), [Toffoli(0, 1, 7)]);
+    }
+
+    /// Input 1 as the first operand, by its place in the table or in the node.
+    #[test]
+    fn the_lower_input_is_the_first_control() {
+        let falling = [Node::Input(1), Node::Input(0), Node::And(0, 1)];
+        gives(&program(2, &falling, &[2]), 0, &[Toffoli(0, 1, 2)]);
+        let exchanged = [Node::Input(0), Node::Input(1), Node::And(1, 0)];
+        gives(&program(2, &exchanged, &[2]), 0, &[Toffoli(0, 1, 2)]);
+        let far = [Node::Input(63), Node::Input(2), Node::And(0, 1)];
+        gives(&program(64, &far, &[2]), 0, &[Toffoli(2, 63, 64)]);
+    }
+
+    /// By one node, and by two that name it.
+    #[test]
+    fn and_of_an_input_with_itself_is_a_cnot() {
+        gives(&program(2, &[Node::Input(1), Node::And(0, 0)], &[1]), 0, &[Cnot(1, 2)]);
+        let twice = [Node::Input(1), Node::Input(1), Node::And(0, 1)];
+        gives(&program(2, &twice, &[2]), 0, &[Cnot(1, 2)]);
+        // Below an AND it is built into a work line, and undone.
+        let below = [Node::Input(0), Node::Input(1), Node::And(0, 0), Node::And(1, 2)];
+        gives(&program(2, &below, &[3]), 1, &[Cnot(0, 3), Toffoli(1, 3, 2), Cnot(0, 3)]);
+        // Of any other node, each operand has a line of its own.
+        let nodes = [Node::Input(0), Node::Not(0), Node::And(1, 1)];
+        let build = [Not(2), Cnot(0, 2), Not(3), Cnot(0, 3), Toffoli(2, 3, 1)];
+        let clean = [Cnot(0, 3), Not(3), Cnot(0, 2), Not(2)];
+        gives(&program(1, &nodes, &[2]), 2, &[&build[..], &clean].concat());
     }
 
     #[test]
@@ -241,67 +300,158 @@ mod tests {
         gives(&program(2, &nodes, &[4]), 2, &[&build[..], &clean].concat());
     }
 
+    /// A NOT of an input is no input: it takes a line, on either side.
     #[test]
-    fn and_of_three_inputs() {
-        let nodes =
-            [Node::Input(0), Node::Input(1), Node::And(0, 1), Node::Input(2), Node::And(2, 3)];
-        let build = [Cnot(0, 5), Cnot(1, 6), Toffoli(5, 6, 4), Cnot(2, 7), Toffoli(4, 7, 3)];
-        let clean = [Cnot(2, 7), Toffoli(5, 6, 4), Cnot(1, 6), Cnot(0, 5)];
-        gives(&program(3, &nodes, &[4]), 4, &[&build[..], &clean].concat());
+    fn and_of_an_input_with_a_not_of_an_input() {
+        let gates = [Not(3), Cnot(1, 3), Toffoli(0, 3, 2), Cnot(1, 3), Not(3)];
+        for and in [Node::And(0, 2), Node::And(2, 0)] {
+            let nodes = [Node::Input(0), Node::Input(1), Node::Not(1), and];
+            gives(&program(2, &nodes, &[3]), 1, &gates);
+        }
+        // Also of the input that is the other operand.
+        let itself = [Node::Input(0), Node::Not(0), Node::And(0, 1)];
+        let gates = [Not(2), Cnot(0, 2), Toffoli(0, 2, 1), Cnot(0, 2), Not(2)];
+        gives(&program(1, &itself, &[2]), 1, &gates);
     }
 
-    /// The line of the second operand is taken before those of its own operands.
+    /// Constants take a line each, though ZERO builds nothing there.
+    #[test]
+    fn and_of_constants() {
+        for and in [Node::And(0, 1), Node::And(1, 0)] {
+            gives(&program(1, &[Node::Zero, Node::Input(0), and], &[2]), 1, &[Toffoli(0, 2, 1)]);
+            let gates = [Not(2), Toffoli(0, 2, 1), Not(2)];
+            gives(&program(1, &[Node::One, Node::Input(0), and], &[2]), 1, &gates);
+        }
+        gives(&program(0, &[Node::Zero, Node::And(0, 0)], &[1]), 2, &[Toffoli(1, 2, 0)]);
+        let both = program(0, &[Node::Zero, Node::One, Node::And(0, 1)], &[2]);
+        gives(&both, 2, &[Not(2), Toffoli(1, 2, 0), Not(2)]);
+    }
+
+    fn three() -> Program {
+        let nodes =
+            [Node::Input(0), Node::Input(1), Node::And(0, 1), Node::Input(2), Node::And(2, 3)];
+        program(3, &nodes, &[4])
+    }
+
+    #[test]
+    fn and_of_three_inputs() {
+        gives(&three(), 1, &[Toffoli(0, 1, 4), Toffoli(2, 4, 3), Toffoli(0, 1, 4)]);
+    }
+
+    /// With line 4 starting at 1 the target stays 1, and line 4 ends 1.
+    #[test]
+    fn and_of_three_inputs_with_a_work_line_at_1() {
+        assert_eq!(ran(&circuit(&three()), &[1, 1, 1, 1, 0]), [1, 1, 1, 0, 0]);
+        assert_eq!(ran(&circuit(&three()), &[1, 1, 1, 1, 1]), [1, 1, 1, 1, 1]);
+    }
+
     #[test]
     fn and_of_an_input_and_an_and() {
         let nodes =
             [Node::Input(0), Node::Input(1), Node::Input(2), Node::And(1, 2), Node::And(0, 3)];
-        let build = [Cnot(0, 4), Cnot(1, 6), Cnot(2, 7), Toffoli(6, 7, 5), Toffoli(4, 5, 3)];
-        let clean = [Toffoli(6, 7, 5), Cnot(2, 7), Cnot(1, 6), Cnot(0, 4)];
-        gives(&program(3, &nodes, &[4]), 4, &[&build[..], &clean].concat());
+        gives(
+            &program(3, &nodes, &[4]),
+            1,
+            &[Toffoli(1, 2, 4), Toffoli(0, 4, 3), Toffoli(1, 2, 4)],
+        );
+    }
+
+    /// The first operand is built, on lines of its own, before the second takes its line.
+    #[test]
+    fn and_of_two_ands_of_three_inputs() {
+        let nodes = [
+            Node::Input(0),
+            Node::Input(1),
+            Node::Input(2),
+            Node::And(0, 1),
+            Node::And(3, 2),
+            Node::And(2, 3),
+            Node::And(4, 5),
+        ];
+        let build = [
+            Toffoli(0, 1, 5),
+            Toffoli(2, 5, 4),
+            Toffoli(0, 1, 7),
+            Toffoli(2, 7, 6),
+            Toffoli(4, 6, 3),
+        ];
+        let clean = [Toffoli(2, 7, 6), Toffoli(0, 1, 7), Toffoli(2, 5, 4), Toffoli(0, 1, 5)];
+        gives(&program(3, &nodes, &[6]), 4, &[&build[..], &clean].concat());
     }
 
     #[test]
     fn and_of_four_inputs() {
-        let build = [
-            Cnot(0, 7),
-            Cnot(1, 8),
-            Toffoli(7, 8, 6),
-            Cnot(2, 9),
-            Toffoli(6, 9, 5),
-            Cnot(3, 10),
-            Toffoli(5, 10, 4),
-        ];
-        let clean =
-            [Cnot(3, 10), Toffoli(6, 9, 5), Cnot(2, 9), Toffoli(7, 8, 6), Cnot(1, 8), Cnot(0, 7)];
-        gives(&four(), 6, &[&build[..], &clean].concat());
+        let build = [Toffoli(0, 1, 6), Toffoli(2, 6, 5), Toffoli(3, 5, 4)];
+        let clean = [Toffoli(2, 6, 5), Toffoli(0, 1, 6)];
+        gives(&four(), 2, &[&build[..], &clean].concat());
     }
 
-    /// Why C is reversed: in its own order, the gate on line 5 runs when its controls are 0 again.
+    /// Why C is reversed: in its own order, the gate on line 5 runs when line 6, its control, is 0
+    /// again.
     #[test]
-    fn undone_in_forward_order_work_lines_stay_dirty() {
-        let start = [1, 1, 1, 1, 0, 0, 0, 0, 0, 0, 0];
-        assert_eq!(ran(&circuit(&four()), &start), [1, 1, 1, 1, 1, 0, 0, 0, 0, 0, 0]);
+    fn undone_in_forward_order_line_5_stays_dirty() {
+        let start = [1, 1, 1, 1, 0, 0, 0];
+        assert_eq!(ran(&circuit(&four()), &start), [1, 1, 1, 1, 1, 0, 0]);
 
         let mut gates = build(&four().nodes, 6, 4, 5);
         let again: Vec<Gate> = gates.iter().filter(|gate| gate.target() != 4).copied().collect();
+        assert_eq!(again, [Toffoli(0, 1, 6), Toffoli(2, 6, 5)]);
         gates.extend(again);
         let forward = Circuit { gates, ..circuit(&four()) };
-        assert_eq!(ran(&forward, &start), [1, 1, 1, 1, 1, 1, 1, 0, 0, 0, 0]);
+        assert_eq!(ran(&forward, &start), [1, 1, 1, 1, 1, 1, 0]);
     }
 
-    /// Every start of the eleven lines, and not only those with clean work lines.
+    /// From every start of a circuit with one output: its value is XORed into the target where the
+    /// work lines start at zero, and every other line ends as it started.
+    fn holds_from_every_start(program: &Program) {
+        let circuit = circuit(program);
+        let (target, lines) = (program.inputs, circuit.lines());
+        for state in 0..1_usize << lines {
+            let start: Vec<u8> = (0..lines).map(|line| (state >> line & 1) as u8).collect();
+            let mut after = start.clone();
+            circuit.gates.iter().for_each(|gate| run::step(*gate, &mut after));
+            if !start[target + 1..].contains(&1) {
+                let mut values = vec![0; program.nodes.len()];
+                evaluate::fill(&program.nodes, &start[..target], &mut values);
+                let value = values[program.outputs[0]];
+                assert_eq!(after[target], start[target] ^ value, "{start:?}, {program:?}");
+            }
+            after[target] = start[target];
+            assert_eq!(after, start, "{program:?}");
+        }
+    }
+
     #[test]
     fn the_right_order_restores_every_work_line() {
-        let circuit = circuit(&four());
-        for state in 0..1 << 11 {
-            let start: Vec<u8> = (0..11).map(|line| (state >> line & 1) as u8).collect();
-            let after = ran(&circuit, &start);
-            assert_eq!((&after[..4], &after[5..]), (&start[..4], &start[5..]));
-            if start[5..] == [0; 6] {
-                let and = u8::from(start[..4] == [1; 4]);
-                assert_eq!(after[4], start[4] ^ and);
-            }
+        holds_from_every_start(&three());
+        holds_from_every_start(&four());
+    }
+
+    /// Every table of four nodes over two inputs, its last as output, but for those with more than
+    /// six work lines.
+    #[test]
+    fn every_small_table_computes_its_value() {
+        let tables = every_table(4);
+        assert_eq!(tables.len(), 4 * 7 * 14 * 25);
+        let small: Vec<_> = tables.iter().filter(|nodes| work_lines(nodes, 3) <= 6).collect();
+        assert_eq!(small.len(), 9_760);
+        for nodes in small {
+            holds_from_every_start(&program(2, nodes, &[3]));
         }
+    }
+
+    /// At most s - 1 work lines and 2 s - 1 gates for a size s, and some tables reach each of them.
+    #[test]
+    fn the_size_bounds_lines_and_gates() {
+        let mut reached = [0, 0];
+        for nodes in every_table(4) {
+            let (size, gates) = (size(&nodes, 3), share_gate_count(&nodes, 3));
+            let work = work_lines(&nodes, 3);
+            assert!(work < size && gates < 2 * size, "{work} and {gates} of {size}, {nodes:?}");
+            reached[0] += usize::from(size > 1 && work == size - 1);
+            reached[1] += usize::from(size > 1 && gates == 2 * size - 1);
+        }
+        assert!(reached.iter().all(|count| *count > 100), "{reached:?}");
     }
 
     #[test]
@@ -314,18 +464,25 @@ mod tests {
         let not =
             program(2, &[Node::Input(0), Node::Not(0), Node::Input(1), Node::Xor(1, 2)], &[3]);
         gives(&not, 0, &[Not(2), Cnot(0, 2), Cnot(1, 2)]);
-        // An AND takes two lines even where nothing is built into them.
-        gives(&program(0, &[Node::Zero, Node::And(0, 0)], &[1]), 2, &[Toffoli(1, 2, 0)]);
+    }
+
+    /// What stands on the target is not undone.
+    #[test]
+    fn xor_of_two_ands() {
+        let mut nodes: Vec<Node> = (0..4).map(Node::Input).collect();
+        nodes.extend([Node::And(0, 1), Node::And(3, 2), Node::Xor(4, 5)]);
+        gives(&program(4, &nodes, &[6]), 0, &[Toffoli(0, 1, 4), Toffoli(2, 3, 4)]);
+        let same = [Node::Input(0), Node::And(0, 0), Node::Xor(1, 1)];
+        gives(&program(1, &same, &[2]), 0, &[Cnot(0, 1); 2]);
     }
 
     /// A node is built anew at each use, and its lines are not given back in between.
     #[test]
     fn a_shared_and_takes_new_lines_at_each_use() {
-        let nodes = [Node::Input(0), Node::And(0, 0), Node::Xor(1, 1)];
-        let build =
-            [Cnot(0, 2), Cnot(0, 3), Toffoli(2, 3, 1), Cnot(0, 4), Cnot(0, 5), Toffoli(4, 5, 1)];
-        let clean = [Cnot(0, 5), Cnot(0, 4), Cnot(0, 3), Cnot(0, 2)];
-        gives(&program(1, &nodes, &[2]), 4, &[&build[..], &clean].concat());
+        let nodes = [&three().nodes[..], &[Node::Xor(4, 4)]].concat();
+        let build = [Toffoli(0, 1, 4), Toffoli(2, 4, 3), Toffoli(0, 1, 5), Toffoli(2, 5, 3)];
+        let clean = [Toffoli(0, 1, 5), Toffoli(0, 1, 4)];
+        gives(&program(3, &nodes, &[5]), 2, &[&build[..], &clean].concat());
     }
 
     /// Each output has its own target, and all work lines are free again before the next.
@@ -333,11 +490,9 @@ mod tests {
     fn shares_follow_in_output_order() {
         let nodes = [Node::Input(0), Node::One, Node::And(0, 1), Node::And(2, 0)];
         let three = program(1, &nodes, &[2, 3, 1]);
-        let first = [Cnot(0, 4), Not(5), Toffoli(4, 5, 1), Not(5), Cnot(0, 4)];
-        let build = [Cnot(0, 5), Not(6), Toffoli(5, 6, 4), Cnot(0, 7), Toffoli(4, 7, 2)];
-        let clean = [Cnot(0, 7), Toffoli(5, 6, 4), Not(6), Cnot(0, 5)];
-        let second = [&build[..], &clean].concat();
-        gives(&three, 4, &[&first[..], &second, &[Not(3)]].concat());
+        let first = [Not(4), Toffoli(0, 4, 1), Not(4)];
+        let second = [Not(5), Toffoli(0, 5, 4), Toffoli(0, 4, 2), Toffoli(0, 5, 4), Not(5)];
+        gives(&three, 2, &[&first[..], &second, &[Not(3)]].concat());
 
         assert_eq!(shares(&three, 0), []);
         assert_eq!(shares(&three, 1), first);

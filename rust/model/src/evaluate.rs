@@ -32,7 +32,13 @@ pub fn evaluate(
         return Err(Refusal::of(15));
     }
 
-    for (i, node) in program.nodes.iter().enumerate() {
+    fill(&program.nodes, inputs, values);
+    Ok(values[program.outputs[output as usize]] == 1)
+}
+
+/// Fills the start of `values` with the nodes' values on these inputs.
+pub(crate) fn fill(nodes: &[Node], inputs: &[u8], values: &mut [u8]) {
+    for (i, node) in nodes.iter().enumerate() {
         values[i] = match *node {
             Node::Zero => 0,
             Node::One => 1,
@@ -42,7 +48,6 @@ pub fn evaluate(
             Node::And(a, b) => values[a] & values[b],
         };
     }
-    Ok(values[program.outputs[output as usize]] == 1)
 }
 
 #[cfg(test)]

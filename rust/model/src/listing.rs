@@ -43,9 +43,20 @@ mod tests {
 
     #[test]
     fn the_whole_case() {
-        let lines = "lines 2 1 2 gates 5\nC 0 3\nC 1 4\nT 3 4 2\nC 1 4\nC 0 3\n";
+        let lines = "lines 2 1 0 gates 1\nT 0 1 2\n";
         assert_eq!(listing(&AND, 1_024), lines);
-        assert_eq!(listing(&AND, 2), lines);
+        assert_eq!(listing(&AND, 0), lines);
+    }
+
+    /// The whole case with ONE for its first input.
+    #[test]
+    fn a_work_line() {
+        let mut file = AND;
+        file[36] = 1;
+        let lines = "lines 2 1 1 gates 3\nN 3\nT 1 3 2\nN 3\n";
+        assert_eq!(listing(&file, 1_024), lines);
+        assert_eq!(listing(&file, 1), lines);
+        assert_eq!(listing(&file, 0), "refused 10 1\n");
     }
 
     #[test]
@@ -61,7 +72,6 @@ mod tests {
     fn a_refusal_is_one_line() {
         assert_eq!(listing(&[], 1_024), "refused 1 0\n");
         assert_eq!(listing(&AND[..55], 1_024), "refused 2 0\n");
-        assert_eq!(listing(&AND, 1), "refused 10 2\n");
         assert_eq!(listing(&AND, 1_025), "refused 9 0\n");
     }
 

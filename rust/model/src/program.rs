@@ -116,6 +116,29 @@ pub(crate) mod tests {
         0x00, 0x00, 0x00, 0x05, 0x00, 0x00, 0x00, 0x01, 0x00, 0x02, 0x00,
     ];
 
+    /// Every table of so many nodes over two inputs.
+    pub(crate) fn every_table(length: usize) -> Vec<Vec<Node>> {
+        let mut tables = vec![vec![]];
+        for i in 0..length {
+            let next = each_next(i);
+            let longer = |table: &Vec<Node>| {
+                next.iter().map(|node| [&table[..], &[*node]].concat()).collect::<Vec<_>>()
+            };
+            tables = tables.iter().flat_map(longer).collect();
+        }
+        tables
+    }
+
+    /// Each way to go on with a table of i nodes by one.
+    fn each_next(i: usize) -> Vec<Node> {
+        let mut next = vec![Node::Zero, Node::One, Node::Input(0), Node::Input(1)];
+        for a in 0..i {
+            next.push(Node::Not(a));
+            next.extend((0..i).flat_map(|b| [Node::Xor(a, b), Node::And(a, b)]));
+        }
+        next
+    }
+
     fn with(changes: &[(usize, u8)]) -> Result<Program, Refusal> {
         let mut file = AND;
         for &(at, byte) in changes {

@@ -73,15 +73,31 @@ fn counted(nodes: &[Node], output: usize) -> [Natural; 3] {
         if !matches!(node, Node::Zero | Node::Xor(..)) {
             gates.add(&in_share);
         }
-        if matches!(node, Node::And(..)) {
-            toffolis.add(&in_share);
-            // Each use takes two lines, and none is given back before the share is over.
+        if let Node::And(a, b) = *node {
+            if !name_one_input(nodes[a], nodes[b]) {
+                toffolis.add(&in_share);
+            }
+            // Each use takes its lines anew, and none is given back before the share is over.
             let taken = Natural::sum(&[&into_target, &into_work_line]);
-            lines.add(&taken);
-            lines.add(&taken);
+            for _ in built_operands(nodes, a, b) {
+                lines.add(&taken);
+            }
         }
     }
     counts
+}
+
+/// The operands of an AND that are built into a work line: not an input, whose line is the control.
+fn built_operands(nodes: &[Node], a: usize, b: usize) -> Vec<usize> {
+    [a, b].into_iter().filter(|operand| !matches!(nodes[*operand], Node::Input(_))).collect()
+}
+
+/// Whether both operands of an AND name the same input, so that its gate is a CNOT.
+fn name_one_input(a: Node, b: Node) -> bool {
+    match (a, b) {
+        (Node::Input(j), Node::Input(k)) => j == k,
+        _ => false,
+    }
 }
 
 /// How often a node is built for an output.
@@ -92,7 +108,7 @@ struct Uses {
 }
 
 /// The uses of each node up to an output's, from the output down. Only an AND builds its operands
-/// into other lines than its own.
+/// into other lines than its own, and those that are inputs not at all.
 fn uses(nodes: &[Node], output: usize) -> Vec<Uses> {
     let mut uses = vec![Uses::default(); output + 1];
     uses[output].into_target = Natural::one();
@@ -102,7 +118,8 @@ fn uses(nodes: &[Node], output: usize) -> Vec<Uses> {
         let operands = match nodes[i] {
             Node::Zero | Node::One | Node::Input(_) => vec![],
             Node::Not(a) => vec![a],
-            Node::Xor(a, b) | Node::And(a, b) => vec![a, b],
+            Node::Xor(a, b) => vec![a, b],
+            Node::And(a, b) => built_operands(nodes, a, b),
         };
         for a in operands {
             let operand = &mut below[a];
@@ -119,7 +136,7 @@ fn uses(nodes: &[Node], output: usize) -> Vec<Uses> {
 #[cfg(test)]
 mod tests {
     use super::*;
-    use crate::program::tests::AND;
+    use crate::program::tests::{every_table, AND};
 
     fn program(inputs: usize, nodes: &[Node], outputs: &[usize]) -> Program {
         Program { inputs, nodes: nodes.to_vec(), outputs: outputs.to_vec() }
@@ -143,48 +160,49 @@ mod tests {
         assert_eq!(counted, built, "counted, then built, output {k} of {nodes:?}");
     }
 
-    /// Each way to go on with a table by one node.
-    fn each_next(i: usize) -> Vec<Node> {
-        let mut next = vec![Node::Zero, Node::One, Node::Input(0)];
-        for a in 0..i {
-            next.push(Node::Not(a));
-            next.extend((0..i).flat_map(|b| [Node::Xor(a, b), Node::And(a, b)]));
-        }
-        next
-    }
-
     #[test]
     fn shares_by_hand() {
         use Node::{And, Input, Not, One, Xor, Zero};
 
-        gives(&program(2, &[Input(0), Input(1), And(0, 1)], &[2]), 0, [5, 1, 2]);
+        gives(&program(2, &[Input(0), Input(1), And(0, 1)], &[2]), 0, [1, 1, 0]);
         // NOR, and the AND of three and of four inputs.
         gives(&program(2, &[Input(0), Input(1), Not(0), Not(1), And(2, 3)], &[4]), 0, [9, 1, 2]);
         let ands = [Input(0), Input(1), And(0, 1), Input(2), And(2, 3), Input(3), And(4, 5)];
         let four = program(4, &ands, &[4, 6, 0]);
-        gives(&four, 0, [9, 3, 4]);
-        gives(&four, 1, [13, 5, 6]);
+        gives(&four, 0, [3, 3, 1]);
+        gives(&four, 1, [5, 5, 2]);
         gives(&four, 2, [1, 0, 0]);
-        // The Toffolis of a XOR of ANDs are all on the target, and are not undone.
-        gives(&program(1, &[Input(0), And(0, 0), Xor(1, 1)], &[2]), 0, [10, 2, 4]);
+        // The gates of a XOR of ANDs are all on the target, and are not undone.
+        gives(&program(2, &[Input(0), Input(1), And(0, 1), Xor(2, 2)], &[3]), 0, [2, 2, 0]);
         gives(&program(0, &[Zero, One, Not(1), Xor(2, 2)], &[3]), 0, [4, 0, 0]);
         gives(&program(0, &[Zero, And(0, 0), Not(1)], &[2]), 0, [2, 1, 2]);
+        // An input beside what is built, on either side: N, C, T, C, N, or T alone.
+        for and in [And(0, 2), And(2, 0)] {
+            gives(&program(2, &[Input(0), Input(1), Not(1), and], &[3]), 0, [5, 1, 1]);
+            gives(&program(2, &[Input(0), Input(1), Zero, and], &[3]), 0, [1, 1, 1]);
+        }
     }
 
-    /// Every table of five nodes, its last as output: 219,024 of them.
+    /// No Toffoli, by one node or by two: not on the target, and not on a work line.
+    #[test]
+    fn and_of_an_input_with_itself() {
+        use Node::{And, Input};
+
+        let itself = [Input(1), Input(1), Input(0), And(0, 0), And(0, 1), And(0, 2), And(3, 4)];
+        let program = program(2, &itself, &[3, 4, 5, 6]);
+        gives(&program, 0, [1, 0, 0]);
+        gives(&program, 1, [1, 0, 0]);
+        gives(&program, 2, [1, 1, 0]);
+        gives(&program, 3, [5, 1, 2]);
+    }
+
+    /// Every table of five nodes over two inputs, its last as output: 392,000 of them.
     #[test]
     fn built_and_counted_alike_in_every_small_table() {
-        let mut tables = vec![vec![]];
-        for i in 0..5 {
-            let next = each_next(i);
-            let longer = |table: &Vec<Node>| {
-                next.iter().map(|node| [&table[..], &[*node]].concat()).collect::<Vec<_>>()
-            };
-            tables = tables.iter().flat_map(longer).collect();
-        }
-        assert_eq!(tables.len(), 3 * 6 * 13 * 24 * 39);
+        let tables = every_table(5);
+        assert_eq!(tables.len(), 4 * 7 * 14 * 25 * 40);
         for nodes in &tables {
-            counted_as_built(&program(1, nodes, &[4]), 0);
+            counted_as_built(&program(2, nodes, &[4]), 0);
         }
     }
 
@@ -207,7 +225,8 @@ mod tests {
         }
     }
 
-    /// 2^4000 gates; and with ANDs 2^4001 - 1 gates before undoing, two lines for each Toffoli.
+    /// 2^4000 gates; and with ANDs of ONE 2^4001 - 1 gates before undoing, two lines for each
+    /// Toffoli.
     #[test]
     fn trees_that_no_memory_holds() {
         let chain = |first: Node, next: fn(usize) -> Node| {
@@ -220,11 +239,19 @@ mod tests {
         assert_eq!(at_most(&xors, 31, u32::MAX), [Some(1 << 31), Some(0), Some(0)]);
         assert_eq!(at_most(&xors, 32, u32::MAX), [None, Some(0), Some(0)]);
 
-        let ands = chain(Node::Input(0), |before| Node::And(before, before));
+        let ands = chain(Node::One, |before| Node::And(before, before));
         assert_eq!(at_most(&ands, 4_000, u32::MAX), [None; 3]);
         // All but the last gate twice.
         let (built, toffolis): (u32, u32) = ((1 << 21) - 1, (1 << 20) - 1);
         let numbers = [2 * built - 1, 2 * toffolis - 1, 2 * toffolis].map(Some);
+        assert_eq!(at_most(&ands, 20, u32::MAX), numbers);
+
+        // Of an input, the lowest ANDs are CNOTs, which the next ones have on their lines.
+        let ands = chain(Node::Input(0), |before| Node::And(before, before));
+        assert_eq!(at_most(&ands, 4_000, u32::MAX), [None; 3]);
+        let (cnots, toffolis): (u32, u32) = (1 << 19, (1 << 19) - 1);
+        let gates = 2 * (cnots + toffolis) - 1;
+        let numbers = [gates, 2 * toffolis - 1, 2 * toffolis].map(Some);
         assert_eq!(at_most(&ands, 20, u32::MAX), numbers);
 
         let zeros = chain(Node::Zero, |before| Node::Xor(before, before));
@@ -261,7 +288,7 @@ mod tests {
             let (mut counts, mut answers) = (vec![7; 24 + behind], vec![9; 3 + behind]);
             assert_eq!(quote(&AND, &mut counts, &mut answers), Ok(1));
             assert_eq!(counts, [vec![0; 24], vec![7; behind]].concat());
-            assert_eq!(answers, [vec![5, 1, 2], vec![9; behind]].concat());
+            assert_eq!(answers, [vec![1, 1, 0], vec![9; behind]].concat());
         }
     }
 

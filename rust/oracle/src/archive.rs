@@ -185,6 +185,14 @@ mod tests {
         0, 0, 0, 2, 0, 1, 0, 2, 0, 0, 0, 0, 0, 2, 0, 1, 0, 0, 0, 5, 0, 0, 0, 1, 0, 2, 0,
     ];
 
+    /// n = 2, nodes INPUT 0, INPUT 1, NOT 0, NOT 1, AND 2 3, output 4. Its share has 9 gates, 1 of
+    /// them a Toffoli, and 2 work lines.
+    const NOR: [u8; 68] = [
+        3, 0, 1, 0, 32, 0, 0, 0, 4, 0, 0, 0, 2, 0, 36, 0, 0, 0, 30, 0, 0, 0, 3, 0, 66, 0, 0, 0, 2,
+        0, 0, 0, 2, 0, 1, 0, 2, 0, 0, 0, 0, 0, 2, 0, 1, 0, 0, 0, 3, 0, 0, 0, 0, 0, 3, 0, 1, 0, 0,
+        0, 5, 0, 2, 0, 3, 0, 4, 0,
+    ];
+
     /// n = 1, m = 1, w = 1; gates N 0, C 0 1, T 0 1 2.
     const CIRCUIT: [u8; 52] = [
         2, 0, 17, 0, 22, 0, 0, 0, 6, 0, 0, 0, 18, 0, 28, 0, 0, 0, 24, 0, 0, 0, 1, 0, 1, 0, 1, 0, 1,
@@ -233,30 +241,42 @@ mod tests {
 
     #[test]
     fn the_answer_to_a_compilation_is_the_number_of_bytes_written() {
-        let (mut sizes, mut area) = ([7; 4], [7; 70]);
-        assert_eq!(compile(&AND, 2, &mut sizes, &mut area), answer(0, 68));
+        let (mut sizes, mut area) = ([7; 4], [7; 38]);
+        assert_eq!(compile(&AND, 0, &mut sizes, &mut area), answer(0, 36));
         assert_eq!(sizes, [1, 1, 3, 7]);
-        assert_eq!((area[18], area[26]), (40, 2));
-        assert_eq!(area[60..], [2, 0, 0, 0, 0, 0, 3, 0, 7, 7]);
+        assert_eq!((area[18], area[26]), (8, 0));
+        assert_eq!(area[28..], [3, 0, 0, 0, 1, 0, 2, 0, 7, 7]);
+        assert_eq!(compile(&AND, 0, &mut sizes, &mut area[..35]), answer(11, 1));
 
-        let (mut sizes, mut area) = ([7; 4], [7; 70]);
+        let (mut sizes, mut area) = ([7; 6], [7; 102]);
+        assert_eq!(compile(&NOR, 2, &mut sizes, &mut area), answer(0, 100));
+        assert_eq!(sizes, [1, 1, 2, 2, 5, 7]);
+        assert_eq!((area[18], area[26]), (72, 2));
+        assert_eq!(area[60..68], [3, 0, 3, 0, 4, 0, 2, 0]);
+        assert_eq!(area[92..], [1, 0, 0, 0, 0, 0, 3, 0, 7, 7]);
+
+        let (mut sizes, mut area) = ([7; 6], [7; 102]);
         assert_eq!(compile(&[], 2, &mut sizes, &mut area), answer(1, 0));
-        assert_eq!(compile(&AND, 2, &mut sizes[..2], &mut area), answer(7, 0));
-        assert_eq!(sizes, [7; 4]);
-        assert_eq!(compile(&AND, 1025, &mut sizes, &mut area), answer(9, 0));
-        assert_eq!(compile(&AND, 1, &mut sizes, &mut area), answer(10, 2));
-        assert_eq!((sizes, area), ([1, 1, 3, 7], [7; 70]));
-        assert_eq!(compile(&AND, 2, &mut sizes, &mut area[..67]), answer(11, 5));
-        assert_eq!((&area[..67], &area[67..]), (&[0; 67][..], &[7; 3][..]));
-        assert_eq!(compile(&AND, 2, &mut sizes, &mut []), answer(11, 5));
+        assert_eq!(compile(&NOR, 2, &mut sizes[..4], &mut area), answer(7, 0));
+        assert_eq!(sizes, [7; 6]);
+        assert_eq!(compile(&NOR, 1025, &mut sizes, &mut area), answer(9, 0));
+        assert_eq!(compile(&NOR, 1, &mut sizes, &mut area), answer(10, 2));
+        assert_eq!((sizes, area), ([1, 1, 2, 2, 5, 7], [7; 102]));
+        assert_eq!(compile(&NOR, 2, &mut sizes, &mut area[..99]), answer(11, 9));
+        assert_eq!((&area[..99], &area[99..]), (&[0; 99][..], &[7; 3][..]));
+        assert_eq!(compile(&NOR, 2, &mut sizes, &mut []), answer(11, 9));
     }
 
     #[test]
     fn the_answer_to_a_quote_is_the_number_of_outputs() {
-        let (mut counts, mut answers) = ([7; 26], [7; 5]);
-        assert_eq!(quote(&AND, &mut counts, &mut answers), answer(0, 1));
-        assert_eq!((&counts[..24], &counts[24..]), (&[0; 24][..], &[7; 2][..]));
-        assert_eq!(answers, [5, 1, 2, 7, 7]);
+        let quoted = |file: &[u8], nodes: usize, numbers: [u64; 3]| {
+            let (mut counts, mut answers) = (vec![7; 8 * nodes + 2], [7; 5]);
+            assert_eq!(quote(file, &mut counts, &mut answers), answer(0, 1));
+            assert_eq!(counts, [vec![0; 8 * nodes], vec![7; 2]].concat());
+            assert_eq!(answers, [&numbers[..], &[7; 2]].concat()[..]);
+        };
+        quoted(&AND, 3, [1, 1, 0]);
+        quoted(&NOR, 5, [9, 1, 2]);
 
         let (mut counts, mut answers) = ([7; 24], [7; 3]);
         assert_eq!(quote(&[], &mut counts, &mut answers), answer(1, 0));

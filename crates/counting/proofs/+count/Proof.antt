@@ -1,23 +1,23 @@
-use mathlib.Core.Path.{_≡_, sym, _∙_}
+use mathlib.Core.Path.{_≡_, refl, sym, _∙_}
+use mathlib.Core.Logic.{⊎-elim}
 use native.Mathlib.Omega.{arith}
+use native.Mathlib.Nat.{add-zero}
 use denote.Ref.{now}
 use Rattle.node.specs.declared.nodes.Node.the-variants as node
 use Rattle.node.specs.Exprs.{ZERO, ONE, INPUT, NOT, XOR, AND}
 use Rattle.node.specs.Trees.{treeOf}
 use Rattle.program.specs.Tables.{treeIn}
 use Rattle.program.proofs.OperandLaws.{Unary, Binary, node-there, tree-is, is-not, is-xor, is-and}
-use Rattle.counting.proofs.CountedLaws.{few, countable-operand, counted-zero, counted-one, counted-input, counted-not, counted-xor, counted-and}
+use Rattle.counting.proofs.CountedLaws.{few, countable-operand, counted-zero, counted-one, counted-input, counted-not, counted-xor, Added, added-input, added-built, added-few, counted-and}
 use borrow.Author.Needs.{needs}
-use Prim.Native.Nat.{ℕ, _<_}
+use Prim.Native.Nat.{ℕ, _+_, _<_}
 use borrow.Fn.Kinds.{In}
 use borrow.Fn.PlainCycle.{Measures, is, falls, and}
 use Rattle.counting.proofs.count.Reads as count
 use Rattle.counting.proofs.count.Kinds as count-kinds
 use Rattle.counting.proofs.+count.Lts-count as count-lts
 use Rattle.counting.proofs.count_and.Reads as count-and-reads
-use Rattle.counting.proofs.count_leaf.Reads as count-leaf-reads
-use Rattle.counting.proofs.count_not.Reads as count-not-reads
-use Rattle.counting.proofs.count_xor.Reads as count-xor-reads
+use Rattle.counting.proofs.is_built.Reads as is-built-reads
 use Rattle.node.proofs.nodes.node_at.Reads as node-at-reads
 use Rattle.counting.proofs.+count.{statement}
 use Rattle.counting.proofs.+count.Tie.{close}
@@ -35,14 +35,10 @@ abbrev claims : ℕ → count-lts.Claims
 claims t = (
   node-at-reads.Asked,
   node-at-reads.Learnt,
-  count-leaf-reads.Asked,
-  count-leaf-reads.Learnt,
   count-below t,
   count.Post,
-  count-not-reads.Asked,
-  count-not-reads.Learnt,
-  count-xor-reads.Asked,
-  count-xor-reads.Learnt,
+  is-built-reads.Asked,
+  is-built-reads.Learnt,
   count-and-reads.Asked,
   count-and-reads.Learnt,
 )
@@ -76,20 +72,11 @@ module _ (t : ℕ) where
   enum-told : count-lts.Need-enum-told (claims t) (count-at t) count.Post
   enum-told c = search needs
 
-  count-leaf-requires : count-lts.Need-count-leaf-requires (claims t) (count-at t) count.Post
-  count-leaf-requires c κs = search needs
-
   enum-told-2 : count-lts.Need-enum-told-2 (claims t) (count-at t) count.Post
   enum-told-2 c = search needs
 
-  count-leaf-requires-2 : count-lts.Need-count-leaf-requires-2 (claims t) (count-at t) count.Post
-  count-leaf-requires-2 c κs = search needs
-
   enum-told-3 : count-lts.Need-enum-told-3 (claims t) (count-at t) count.Post
   enum-told-3 c = search needs
-
-  count-leaf-requires-3 : count-lts.Need-count-leaf-requires-3 (claims t) (count-at t) count.Post
-  count-leaf-requires-3 c κs = search needs
 
   enum-known-node : count-lts.Need-enum-known-node (claims t) (count-at t) count.Post
   enum-known-node c = search needs
@@ -100,8 +87,8 @@ module _ (t : ℕ) where
   count-requires : count-lts.Need-count-requires (claims t) (count-at t) count.Post
   count-requires c κs = let k = as-not (c .before) in (omega (arith, k .only .low, c .before .before .before .before .before .pre .0), countable-operand (c .before .before .before .before .before .pre .1) (k .only))
 
-  count-not-requires : count-lts.Need-count-not-requires (claims t) (count-at t) count.Post
-  count-not-requires c κs = few (c .count .ensures) (countable-operand (c .before .before .before .before .before .before .pre .1) (as-not (c .before .before) .only) .small)
+  add-result : count-lts.Need-add-result (claims t) (count-at t) count.Post
+  add-result c = omega (arith, few (c .count .ensures) (countable-operand (c .before .before .before .before .before .before .pre .1) (as-not (c .before .before) .only) .small))
 
   enum-known-node-2 : count-lts.Need-enum-known-node-2 (claims t) (count-at t) count.Post
   enum-known-node-2 c = search needs
@@ -118,44 +105,83 @@ module _ (t : ℕ) where
   count-requires-3 : count-lts.Need-count-requires-3 (claims t) (count-at t) count.Post
   count-requires-3 c κs = let k = as-xor (c .before .before) in (omega (arith, k .second .low, c .before .before .before .before .before .before .pre .0), countable-operand (c .before .before .before .before .before .before .pre .1) (k .second))
 
-  count-xor-requires : count-lts.Need-count-xor-requires (claims t) (count-at t) count.Post
-  count-xor-requires c κs = let k = as-xor (c .before .before .before) in (few (c .before .count2 .ensures) (countable-operand (c .before .before .before .before .before .before .before .pre .1) (k .first) .small), few (c .count3 .ensures) (countable-operand (c .before .before .before .before .before .before .before .pre .1) (k .second) .small))
+  add-result-2 : count-lts.Need-add-result-2 (claims t) (count-at t) count.Post
+  add-result-2 c = let k = as-xor (c .before .before .before) in omega (arith, few (c .before .count2 .ensures) (countable-operand (c .before .before .before .before .before .before .before .pre .1) (k .first) .small), few (c .count3 .ensures) (countable-operand (c .before .before .before .before .before .before .before .pre .1) (k .second) .small))
 
   enum-known-node-3 : count-lts.Need-enum-known-node-3 (claims t) (count-at t) count.Post
   enum-known-node-3 c = search needs
+
+  cast-is-built : count-lts.Need-cast-is-built (claims t) (count-at t) count.Post
+  cast-is-built c = search needs
+
+  is-built-requires : count-lts.Need-is-built-requires (claims t) (count-at t) count.Post
+  is-built-requires c κs = as-and (c .before) .first .valid
 
   cast-count-4 : count-lts.Need-cast-count-4 (claims t) (count-at t) count.Post
   cast-count-4 c = search needs
 
   count-requires-4 : count-lts.Need-count-requires-4 (claims t) (count-at t) count.Post
-  count-requires-4 c κs = let k = as-and (c .before) in (omega (arith, k .first .low, c .before .before .before .before .before .pre .0), countable-operand (c .before .before .before .before .before .pre .1) (k .first))
+  count-requires-4 c κs = let k = as-and (c .before .before .before) in (omega (arith, k .first .low, c .before .before .before .before .before .before .before .pre .0), countable-operand (c .before .before .before .before .before .before .before .pre .1) (k .first))
+
+  add-made : count-lts.Need-add-made (claims t) (count-at t) count.Post
+  add-made c = omega (arith, few (c .count4 .ensures) (countable-operand (c .before .before .before .before .before .before .before .before .pre .1) (as-and (c .before .before .before .before) .first) .small))
+
+  -- what the first operand adds, on either way
+  first-added : (c : count-lts.Joined1 (claims t) (count-at t) count.Post) → Added (treeIn (now (c .before .before .before .before .before .before .before .args .nodes)) (c .before .before .before .node3 .given .0 .0)) (c .if1 .made)
+  first-added c =
+      let small = countable-operand (c .before .before .before .before .before .before .before .pre .1) (as-and (c .before .before .before) .first) .small in
+      ⊎-elim
+      (λ w. added-built small (sym (c .before .is-built .ensures) ∙ w .0 .taken) (w .1 .ensures) (w .2))
+      (λ w. added-input small (sym (c .before .is-built .ensures) ∙ w .0 .left) (w .1))
+      (c .if1 .came)
+
+  cast-is-built-2 : count-lts.Need-cast-is-built-2 (claims t) (count-at t) count.Post
+  cast-is-built-2 c = search needs
+
+  is-built-requires-2 : count-lts.Need-is-built-requires-2 (claims t) (count-at t) count.Post
+  is-built-requires-2 c κs = as-and (c .before .before .before) .second .valid
 
   cast-count-5 : count-lts.Need-cast-count-5 (claims t) (count-at t) count.Post
   cast-count-5 c = search needs
 
   count-requires-5 : count-lts.Need-count-requires-5 (claims t) (count-at t) count.Post
-  count-requires-5 c κs = let k = as-and (c .before .before) in (omega (arith, k .second .low, c .before .before .before .before .before .before .pre .0), countable-operand (c .before .before .before .before .before .before .pre .1) (k .second))
+  count-requires-5 c κs = let k = as-and (c .before .before .before .before .before) in (omega (arith, k .second .low, c .before .before .before .before .before .before .before .before .before .pre .0), countable-operand (c .before .before .before .before .before .before .before .before .before .pre .1) (k .second))
+
+  add-made-2 : count-lts.Need-add-made-2 (claims t) (count-at t) count.Post
+  add-made-2 c = omega (arith, few (c .count5 .ensures) (countable-operand (c .before .before .before .before .before .before .before .before .before .before .pre .1) (as-and (c .before .before .before .before .before .before) .second) .small))
+
+  add-made-3 : count-lts.Need-add-made-3 (claims t) (count-at t) count.Post
+  add-made-3 c = omega (arith, added-few (first-added (c .before .before .before .before)), few (c .before .count5 .ensures) (countable-operand (c .before .before .before .before .before .before .before .before .before .before .before .pre .1) (as-and (c .before .before .before .before .before .before .before) .second) .small))
+
+  -- and what the second adds to it
+  second-added : (c : count-lts.Joined2 (claims t) (count-at t) count.Post) → ((z : ℕ) × (c .if2 .made ≡ c .before .before .if1 .made + z) × Added (treeIn (now (c .before .before .before .before .before .before .before .before .before .args .nodes)) (c .before .before .before .before .before .node3 .given .0 .1 .0)) z)
+  second-added c =
+      let small = countable-operand (c .before .before .before .before .before .before .before .before .before .pre .1) (as-and (c .before .before .before .before .before) .second) .small in
+      ⊎-elim
+      (λ w. (_, w .3, added-built small (sym (c .before .is-built2 .ensures) ∙ w .0 .taken) (w .1 .ensures) refl))
+      (λ w. (0, w .1 ∙ sym (add-zero _), added-input small (sym (c .before .is-built2 .ensures) ∙ w .0 .left) refl))
+      (c .if2 .came)
 
   count-and-requires : count-lts.Need-count-and-requires (claims t) (count-at t) count.Post
-  count-and-requires c κs = let k = as-and (c .before .before .before) in (few (c .before .count4 .ensures) (countable-operand (c .before .before .before .before .before .before .before .pre .1) (k .first) .small), few (c .count5 .ensures) (countable-operand (c .before .before .before .before .before .before .before .pre .1) (k .second) .small))
+  count-and-requires c κs = let z = second-added c in omega (arith, z .1, added-few (first-added (c .before .before)), added-few (z .2))
 
   returns : count-lts.Need-returns (claims t) (count-at t) count.Post
-  returns c = rw (as-zero (c .before)) (counted-zero (c .count-leaf .ensures))
+  returns c = rw (as-zero c) counted-zero
 
   returns-2 : count-lts.Need-returns-2 (claims t) (count-at t) count.Post
-  returns-2 c = rw (as-one (c .before)) (counted-one (c .count-leaf2 .ensures))
+  returns-2 c = rw (as-one c) counted-one
 
   returns-3 : count-lts.Need-returns-3 (claims t) (count-at t) count.Post
-  returns-3 c = rw (as-input (c .before)) (counted-input (c .before .enum-told3 .given .0 .0) (c .count-leaf3 .ensures))
+  returns-3 c = rw (as-input c) (counted-input _)
 
   returns-4 : count-lts.Need-returns-4 (claims t) (count-at t) count.Post
-  returns-4 c = rw (as-not (c .before .before .before) .is) (counted-not (c .before .count .ensures) (c .count-not .ensures))
+  returns-4 c = rw (as-not (c .before .before) .is) (counted-not (c .count .ensures) refl)
 
   returns-5 : count-lts.Need-returns-5 (claims t) (count-at t) count.Post
-  returns-5 c = rw (as-xor (c .before .before .before .before) .is) (counted-xor (c .before .before .count2 .ensures) (c .before .count3 .ensures) (c .count-xor .ensures))
+  returns-5 c = rw (as-xor (c .before .before .before) .is) (counted-xor (c .before .count2 .ensures) (c .count3 .ensures) refl)
 
   returns-6 : count-lts.Need-returns-6 (claims t) (count-at t) count.Post
-  returns-6 c = rw (as-and (c .before .before .before .before) .is) (counted-and (c .before .before .count4 .ensures) (c .before .count5 .ensures) (c .count-and .ensures))
+  returns-6 c = let z = second-added (c .before) in rw (as-and (c .before .before .before .before .before .before) .is) (counted-and (first-added (c .before .before .before)) (z .2) (rw (z .1) at (c .count-and .ensures)))
 
 pub +count-spec : {M : Type 1} → statement M
 +count-spec =
@@ -167,26 +193,30 @@ pub +count-spec : {M : Type 1} → statement M
     count.Post
     (node-at-requires t)
     (enum-told t)
-    (count-leaf-requires t)
     (enum-told-2 t)
-    (count-leaf-requires-2 t)
     (enum-told-3 t)
-    (count-leaf-requires-3 t)
     (enum-known-node t)
     (cast-count t)
     (count-requires t)
-    (count-not-requires t)
+    (add-result t)
     (enum-known-node-2 t)
     (cast-count-2 t)
     (count-requires-2 t)
     (cast-count-3 t)
     (count-requires-3 t)
-    (count-xor-requires t)
+    (add-result-2 t)
     (enum-known-node-3 t)
+    (cast-is-built t)
+    (is-built-requires t)
     (cast-count-4 t)
     (count-requires-4 t)
+    (add-made t)
+    (cast-is-built-2 t)
+    (is-built-requires-2 t)
     (cast-count-5 t)
     (count-requires-5 t)
+    (add-made-2 t)
+    (add-made-3 t)
     (count-and-requires t)
     (returns t)
     (returns-2 t)

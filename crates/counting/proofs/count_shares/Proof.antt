@@ -11,7 +11,7 @@ use native.Mathlib.Omega.{arith}
 use lib.ListN.{length}
 use Rattle.counting.specs.Counters.{Countable}
 use Rattle.program.specs.Tables.{treesIn}
-use Rattle.counting.proofs.CountedLaws.{Tallied, tallied-start, tallied-output, tallied-all, few}
+use Rattle.counting.proofs.CountedLaws.{Tallied, tallied-start, tallied-output, tallied-all}
 use Rattle.program.proofs.OperandLaws.{trees-length}
 use denote.Ref.{now}
 
@@ -45,7 +45,7 @@ count-requires : tie.Need-count-requires Inv-loop μ-loop
 count-requires c κs = countable c
 
 add-share-requires : tie.Need-add-share-requires Inv-loop μ-loop
-add-share-requires c κs = (few (c .count .ensures) (countable (c .before) .small), omega (arith, c .before .before .before .loop .inv .few, c .before .before .before .loop .inv .within, trees-length (now (c .before .before .before .before .before .before .args .nodes)) (now (c .before .before .before .before .before .before .args .outputs)), c .before .before .before .before .before .before .pre .outputs-most))
+add-share-requires c κs = omega (arith, c .before .before .before .loop .inv .few, c .before .before .before .loop .inv .within, trees-length (now (c .before .before .before .before .before .before .args .nodes)) (now (c .before .before .before .before .before .before .args .outputs)), c .before .before .before .before .before .before .pre .outputs-most)
 
 add-k : tie.Need-add-k Inv-loop μ-loop
 add-k c = search needs

@@ -20,7 +20,7 @@ capped-requires-2 : tie.Need-capped-requires-2
 capped-requires-2 c κs = search needs
 
 returns : tie.Need-returns
-returns c = ap₂ (λ (k l : ℕ). record { built = k; undone = l }) (c .before .before .before .capped .ensures) (c .capped2 .ensures)
+returns c = ap₂ (λ (k l : ℕ). record { built = k; undone = l }) (c .before .capped .ensures) (c .capped2 .ensures)
 
 pub tally-and-spec : {M : Type 1} → statement M
 tally-and-spec =

@@ -12,7 +12,7 @@ slice-aggregate-write-circuit : tie.Need-slice-aggregate-write-circuit
 slice-aggregate-write-circuit c = search needs
 
 write-circuit-requires : tie.Need-write-circuit-requires
-write-circuit-requires c κs = (case-range (c .before .before .before .count-shares .ensures), case-room _ (length-replicate {A = ℕ} 132 0))
+write-circuit-requires c κs = (case-range (c .before .before .before .count-shares .ensures), case-room _ (length-replicate {A = ℕ} 68 0))
 
 slice-aggregate-write-all : tie.Need-slice-aggregate-write-all
 slice-aggregate-write-all c = search needs

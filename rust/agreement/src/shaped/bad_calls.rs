@@ -1,6 +1,6 @@
 //! Calls with a circuit file and line or choice bytes that running and undoing refuse.
 
-use super::circuit::{and_of_four_built, nots, whole_case, BAD, WHOLE_CASE};
+use super::circuit::{and_of_copies, and_of_four_built, nots, whole_case, BAD};
 use crate::circuit::{cnot, Circuit};
 
 /// A call that is refused.
@@ -28,8 +28,9 @@ pub fn all() -> Vec<BadCall> {
 }
 
 fn too_few_or_too_many_bits() -> Vec<BadCall> {
-    let lengths: [(Circuit, &[usize]); 3] = [
-        (whole_case(), &[0, 1, 4, 6, 64, 261, 65541]),
+    let lengths: [(Circuit, &[usize]); 4] = [
+        (whole_case(), &[0, 1, 2, 4, 64, 259, 65539]),
+        (and_of_copies(), &[0, 1, 4, 6, 64, 261, 65541]),
         (nots(1), &[0, 2]),
         (Circuit::new(64, 64, 1024, &[]), &[1151, 1153]),
     ];
@@ -48,8 +49,9 @@ fn too_few_or_too_many_bits() -> Vec<BadCall> {
 
 fn bytes_that_are_no_bits() -> Vec<BadCall> {
     // Lines that no gate uses are checked all the same.
-    let places: [(Circuit, &[usize]); 3] = [
-        (whole_case(), &[0, 1, 2, 3, 4]),
+    let places: [(Circuit, &[usize]); 4] = [
+        (whole_case(), &[0, 1, 2]),
+        (and_of_copies(), &[0, 1, 2, 3, 4]),
         (nots(1), &[0]),
         (Circuit::new(64, 64, 1024, &[]), &[0, 63, 64, 127, 128, 256, 1151]),
     ];
@@ -69,11 +71,12 @@ fn bytes_that_are_no_bits() -> Vec<BadCall> {
 /// A file of 5 lines for each cause of the reader, with bytes that are refused with 13 as well.
 /// Each has the faults of the later ones too, as far as it can.
 fn causes_together_with_13() -> Vec<BadCall> {
+    let good = and_of_copies().bytes();
     let bad_range = Circuit::new(2, 1, 1025, &[BAD]);
     let bad_length = bad_range.layout().resized(0, 7);
     let faults = [
-        (WHOLE_CASE[..21].to_vec(), (1, 0)),
-        (WHOLE_CASE[..67].to_vec(), (2, 0)),
+        (good[..21].to_vec(), (1, 0)),
+        (good[..67].to_vec(), (2, 0)),
         (bad_length.bytes(), (3, 0)),
         (bad_range.bytes(), (4, 0)),
         (Circuit::new(2, 1, 2, &[cnot(0, 3), BAD]).bytes(), (12, 1)),
@@ -95,7 +98,7 @@ fn causes_together_with_13() -> Vec<BadCall> {
 /// with good bytes, with a byte too few or too many, with one that is no bit, and with none.
 fn controls_exchanged() -> Vec<BadCall> {
     let mut calls = Vec::new();
-    for circuit in [whole_case(), and_of_four_built()] {
+    for circuit in [whole_case(), and_of_copies(), and_of_four_built()] {
         let lines = circuit.lines();
         let in_turn = |count: usize| (0..count).map(|line| line as u8 & 1).collect::<Vec<u8>>();
         let no_bit = [in_turn(lines - 1), vec![2]].concat();

@@ -4,13 +4,11 @@ use super::contents::{self, Format};
 use super::{accepted, program, refused, Shaped};
 use crate::circuit::{cnot, gate, not, sorted_toffoli, toffoli, Circuit, Gate};
 
-/// The circuit of 01's whole case: n = 2, m = 1, w = 2.
-pub const WHOLE_CASE: [u8; 68] = [
+/// The circuit of 01's whole case, as 02's A5 has it: n = 2, m = 1, w = 0, and T 0 1 2.
+pub const WHOLE_CASE: [u8; 36] = [
     0x02, 0x00, 0x11, 0x00, 0x16, 0x00, 0x00, 0x00, 0x06, 0x00, 0x00, 0x00, 0x12, 0x00, 0x1c, 0x00,
-    0x00, 0x00, 0x28, 0x00, 0x00, 0x00, 0x02, 0x00, 0x01, 0x00, 0x02, 0x00, 0x02, 0x00, 0x00, 0x00,
-    0x00, 0x00, 0x03, 0x00, 0x02, 0x00, 0x01, 0x00, 0x00, 0x00, 0x04, 0x00, 0x03, 0x00, 0x03, 0x00,
-    0x04, 0x00, 0x02, 0x00, 0x02, 0x00, 0x01, 0x00, 0x00, 0x00, 0x04, 0x00, 0x02, 0x00, 0x00, 0x00,
-    0x00, 0x00, 0x03, 0x00,
+    0x00, 0x00, 0x08, 0x00, 0x00, 0x00, 0x02, 0x00, 0x01, 0x00, 0x00, 0x00, 0x03, 0x00, 0x00, 0x00,
+    0x01, 0x00, 0x02, 0x00,
 ];
 
 /// A gate that no check of gates accepts.
@@ -41,7 +39,7 @@ const PAIRS: [(u16, u16); 16] = [
 const FORMAT: Format = Format {
     whole_case: &WHOLE_CASE,
     layout: || whole_case().layout(),
-    numbers: [2, 1, 2, 5],
+    numbers: [2, 1, 0, 1],
     table: 22,
     record: 8,
     other: &program::WHOLE_CASE,
@@ -54,6 +52,7 @@ const FORMAT: Format = Format {
 pub fn all() -> Vec<Shaped> {
     let groups = [
         contents::all(&FORMAT),
+        body_over_the_head(),
         accepted_circuits(),
         gate_lengths(),
         gate_counts(),
@@ -75,6 +74,12 @@ pub fn all() -> Vec<Shaped> {
 
 /// The fields of the whole case.
 pub fn whole_case() -> Circuit {
+    Circuit::new(2, 1, 0, &[toffoli(0, 1, 2)])
+}
+
+/// The AND of two inputs from copies of them, which is no circuit of the compiler: the same from
+/// both ends, with work lines, and with gates of two kinds.
+pub fn and_of_copies() -> Circuit {
     let gates = [cnot(0, 3), cnot(1, 4), toffoli(3, 4, 2), cnot(1, 4), cnot(0, 3)];
     Circuit::new(2, 1, 2, &gates)
 }
@@ -88,24 +93,13 @@ pub fn nor() -> Circuit {
 
 /// AND(AND(input 0, input 1), input 2).
 pub fn and_of_three() -> Circuit {
-    let build = [cnot(0, 5), cnot(1, 6), toffoli(5, 6, 4), cnot(2, 7), toffoli(4, 7, 3)];
-    let clean = [cnot(2, 7), toffoli(5, 6, 4), cnot(1, 6), cnot(0, 5)];
-    Circuit::new(3, 1, 4, &[&build[..], &clean].concat())
+    Circuit::new(3, 1, 1, &[toffoli(0, 1, 4), toffoli(2, 4, 3), toffoli(0, 1, 4)])
 }
 
 /// AND of the three inputs' AND with a fourth: the building half only, which leaves its work lines
 /// as they are until it is undone.
 pub fn and_of_four_built() -> Circuit {
-    let gates = [
-        cnot(0, 7),
-        cnot(1, 8),
-        toffoli(7, 8, 6),
-        cnot(2, 9),
-        toffoli(6, 9, 5),
-        cnot(3, 10),
-        toffoli(5, 10, 4),
-    ];
-    Circuit::new(4, 1, 6, &gates)
+    Circuit::new(4, 1, 2, &[toffoli(0, 1, 6), toffoli(2, 6, 5), toffoli(3, 5, 4)])
 }
 
 /// A 1 on line 0 goes down all the lines, if the first gate runs first.
@@ -133,14 +127,22 @@ pub fn nots(count: usize) -> Circuit {
     Circuit::new(0, 1, 0, &vec![not(0); count])
 }
 
+/// Gates that start 2 bytes early, at w: read so, the circuit would be as it is without that, as its
+/// w and its first gate's kind are both 2.
+fn body_over_the_head() -> Vec<Shaped> {
+    let file = and_of_copies().layout().with_overlap(1, 2).bytes();
+    vec![refused("gates that start at w, which is their first kind", file, 2, 0)]
+}
+
 fn accepted_circuits() -> Vec<Shaped> {
     let itself = Circuit::new(1, 1, 0, &[cnot(0, 1), cnot(0, 1)]);
     // What the compiler never writes: inputs as targets, outputs as controls.
     let free = Circuit::new(2, 1, 1, &[cnot(2, 0), toffoli(2, 3, 1), not(1), cnot(0, 3)]);
     vec![
+        accepted("AND of copies of two inputs", and_of_copies().bytes(), [2, 1, 2, 5]),
         accepted("NOR", nor().bytes(), [2, 1, 2, 9]),
-        accepted("AND of three inputs", and_of_three().bytes(), [3, 1, 4, 9]),
-        accepted("AND of four inputs, built", and_of_four_built().bytes(), [4, 1, 6, 7]),
+        accepted("AND of three inputs", and_of_three().bytes(), [3, 1, 1, 3]),
+        accepted("AND of four inputs, built", and_of_four_built().bytes(), [4, 1, 2, 3]),
         accepted("XOR of an input with itself", itself.bytes(), [1, 1, 0, 2]),
         accepted("output ZERO", Circuit::new(0, 1, 0, &[]).bytes(), [0, 1, 0, 0]),
         accepted("any line as target", free.bytes(), [2, 1, 1, 4]),
@@ -159,7 +161,7 @@ fn accepted_circuits() -> Vec<Shaped> {
 }
 
 fn gate_lengths() -> Vec<Shaped> {
-    let body = |length: usize| whole_case().layout().resized(1, length).bytes();
+    let body = |length: usize| and_of_copies().layout().resized(1, length).bytes();
     let name = |length: usize| format!("gate body of {length} bytes");
     let mut files =
         vec![accepted(name(0), body(0), [2, 1, 2, 0]), accepted(name(8), body(8), [2, 1, 2, 1])];

@@ -181,8 +181,7 @@ fn bodies_apart(format: &Format) -> Vec<Shaped> {
     }
     for (i, _) in format.entries().skip(1) {
         // Read so, some would be in order: by a byte, the program's nodes would be ZERO, INPUT 1
-        // and AND 0 1, or its output 0; by 2, the circuit is the whole case, as its w and its first
-        // gate's kind are both 2.
+        // and AND 0 1, or its output 0.
         let name = |what: &str| format!("a {} body that {what}", PLACES[i]);
         files.extend([
             refused(name("overlaps the one before by a byte"), overlap(i, 1), 2, 0),

@@ -64,9 +64,11 @@ struct Count {
     lines: usize,
 }
 
+const NOTHING: Count = Count { gates: 0, own: 0, lines: 0 };
+
 fn count(program: &Program, node: u16) -> Count {
     match program.node(node) {
-        Node::Zero => Count { gates: 0, own: 0, lines: 0 },
+        Node::Zero => NOTHING,
         Node::One | Node::Input(_) => Count { gates: 1, own: 1, lines: 0 },
         Node::Not(a) => {
             let a = count(program, a);
@@ -77,10 +79,19 @@ fn count(program: &Program, node: u16) -> Count {
             Count { gates: a.gates + b.gates, own: a.own + b.own, lines: a.lines + b.lines }
         }
         Node::And(a, b) => {
-            let (a, b) = (count(program, a), count(program, b));
-            Count { gates: a.gates + b.gates + 1, own: 1, lines: a.lines + b.lines + 2 }
+            let (a, b) = (count_control(program, a), count_control(program, b));
+            Count { gates: a.gates + b.gates + 1, own: 1, lines: a.lines + b.lines }
         }
     }
+}
+
+/// What an operand of AND takes: an input nothing, any other node a line that it is built into.
+fn count_control(program: &Program, operand: u16) -> Count {
+    if let Node::Input(_) = program.node(operand) {
+        return NOTHING;
+    }
+    let built = count(program, operand);
+    Count { lines: built.lines + 1, ..built }
 }
 
 fn write_start(start: &mut [u8], program: &Program, work: u16, gates_length: u32) {
@@ -127,13 +138,25 @@ impl Share<'_> {
                 self.build(program, b, target);
             }
             Node::And(a, b) => {
-                let first = self.take();
-                self.build(program, a, first);
-                let second = self.take();
-                self.build(program, b, second);
-                self.push(3, first, second, target);
+                let a = self.control(program, a);
+                let b = self.control(program, b);
+                if a == b {
+                    self.push(2, a, 0, target);
+                } else {
+                    self.push(3, a.min(b), a.max(b), target);
+                }
             }
         }
+    }
+
+    /// The line of an operand of AND: an input's own, or one that the node is built into.
+    fn control(&mut self, program: &Program, operand: u16) -> u16 {
+        if let Node::Input(j) = program.node(operand) {
+            return j;
+        }
+        let line = self.take();
+        self.build(program, operand, line);
+        line
     }
 
     /// Appends the gates written so far, the last one first, but for those of the target.

@@ -31,7 +31,8 @@ fn fill(program: &Program, entries: &mut [Entry]) {
         let count = |operand: u16| Count::from(&entries[usize::from(operand)]);
         let count = match program.node(i as u16) {
             Node::Zero => Count::default(),
-            Node::One | Node::Input(_) => Count { own: 1, ..Count::default() },
+            Node::One => Count { own: 1, ..Count::default() },
+            Node::Input(j) => Count { own: 1, input: u64::from(j) + 1, ..Count::default() },
             Node::Not(a) => count(a).not(),
             Node::Xor(a, b) => count(a).xor(count(b)),
             Node::And(a, b) => count(a).and(count(b)),
@@ -45,7 +46,8 @@ fn capped(count: u64) -> u64 {
 }
 
 /// What building a node takes, each number capped: gates on the target it is built into and gates
-/// on work lines, the same of Toffolis, and work lines.
+/// on work lines, the same of Toffolis, and work lines. And the input that the node is, from 1, or 0
+/// for any other node: what it takes as an operand of AND is known without looking at it again.
 #[derive(Default)]
 struct Count {
     own: u64,
@@ -53,16 +55,17 @@ struct Count {
     own_toffolis: u64,
     other_toffolis: u64,
     lines: u64,
+    input: u64,
 }
 
 impl Count {
-    fn from(&[own, others, own_toffolis, other_toffolis, lines, ..]: &Entry) -> Count {
-        Count { own, others, own_toffolis, other_toffolis, lines }
+    fn from(&[own, others, own_toffolis, other_toffolis, lines, input, ..]: &Entry) -> Count {
+        Count { own, others, own_toffolis, other_toffolis, lines, input }
     }
 
     fn entry(self) -> Entry {
-        let Count { own, others, own_toffolis, other_toffolis, lines } = self;
-        [own, others, own_toffolis, other_toffolis, lines, 0, 0, 0]
+        let Count { own, others, own_toffolis, other_toffolis, lines, input } = self;
+        [own, others, own_toffolis, other_toffolis, lines, input, 0, 0]
     }
 
     fn gates(&self) -> u64 {
@@ -74,7 +77,7 @@ impl Count {
     }
 
     fn not(self) -> Count {
-        Count { own: capped(self.own + 1), ..self }
+        Count { own: capped(self.own + 1), input: 0, ..self }
     }
 
     fn xor(self, b: Count) -> Count {
@@ -84,17 +87,32 @@ impl Count {
             own_toffolis: capped(self.own_toffolis + b.own_toffolis),
             other_toffolis: capped(self.other_toffolis + b.other_toffolis),
             lines: capped(self.lines + b.lines),
+            input: 0,
         }
     }
 
-    /// The operands are built into work lines, and the last gate is a Toffoli.
+    /// The last gate is a Toffoli, unless both operands are one input.
     fn and(self, b: Count) -> Count {
+        let is_toffoli = self.input == 0 || self.input != b.input;
+        let (a, b) = (self.control(), b.control());
         Count {
             own: 1,
-            others: capped(self.gates() + b.gates()),
-            own_toffolis: 1,
-            other_toffolis: capped(self.toffolis() + b.toffolis()),
-            lines: capped(self.lines + b.lines + 2),
+            others: capped(a.gates + b.gates),
+            own_toffolis: u64::from(is_toffoli),
+            other_toffolis: capped(a.toffolis + b.toffolis),
+            lines: capped(a.lines + b.lines),
+            input: 0,
+        }
+    }
+
+    /// What it takes as an operand of AND: an input nothing, any other node a line that it is built
+    /// into.
+    fn control(self) -> Control {
+        if self.input == 0 {
+            let (gates, toffolis) = (self.gates(), self.toffolis());
+            Control { gates, toffolis, lines: self.lines + 1 }
+        } else {
+            Control::default()
         }
     }
 
@@ -104,4 +122,12 @@ impl Count {
         let toffolis = self.toffolis() + self.other_toffolis;
         [capped(gates), capped(toffolis), self.lines]
     }
+}
+
+/// Gates, Toffolis and work lines of an operand of AND.
+#[derive(Default)]
+struct Control {
+    gates: u64,
+    toffolis: u64,
+    lines: u64,
 }

@@ -1,6 +1,7 @@
 use mathlib.Core.Path.{_≡_, sym, _∙_}
 use native.Mathlib.Omega.{arith}
-use Prim.Native.Nat.{ℕ, _<_}
+use Prim.Native.Nat.{ℕ, _/_, _%_, _<_}
+use mathlib.Core.Logic.{⊎-elim}
 use denote.Ref.{now}
 use borrow.Author.Needs.{needs}
 use borrow.Fn.Kinds.{In}
@@ -11,12 +12,16 @@ use Rattle.node.specs.Trees.{treeOf}
 use Rattle.node.proofs.nodes.node_at.Reads as node-at-reads
 use Rattle.program.specs.Tables.{treeIn}
 use Rattle.program.proofs.OperandLaws.{Unary, Binary, node-there, tree-is, is-not, is-xor, is-and}
-use Rattle.construct.proofs.BuiltLaws.{by-numbers, built-zero, built-one, built-input, built-not, built-xor, built-and, free-low, few-now, room-one, room-input, room-not, room-under, room-xor-first, room-xor-second, line-first, room-and-first, line-second, room-and-second, room-toffoli}
+use Rattle.progress.specs.Progress.{lineNumbers}
+use Rattle.progress.proofs.ProgressLaws.{by-numbers, still}
+use Rattle.construct.proofs.BuiltLaws.{built-zero, built-one, built-input, built-not, built-xor, built-and, free-low, few-now, room-one, room-input, room-not, room-under, room-xor-first, room-xor-second, line-first, room-and-first, made-first, line-second, room-and-second, made-second, made-input, room-and, Made, made-same}
 use Rattle.construct.proofs.builder.build.Reads as build
 use Rattle.construct.proofs.builder.build.Kinds as build-kinds
 use Rattle.construct.proofs.builder.+build.Lts-build as build-lts
-use Rattle.construct.proofs.builder.append.Reads as append-reads
-use Rattle.construct.proofs.builder.progress.Reads as progress-reads
+use Rattle.progress.proofs.write_and.Reads as write-and-reads
+use Rattle.progress.proofs.write_next.Reads as write-next-reads
+use Rattle.construct.proofs.builder.control_of.Reads as control-of-reads
+use Rattle.progress.proofs.pack.Reads as pack-reads
 use Rattle.construct.proofs.builder.take_line.Reads as take-line-reads
 use Rattle.construct.proofs.builder.+build.{statement}
 use Rattle.construct.proofs.builder.+build.Tie.{close}
@@ -34,14 +39,18 @@ abbrev claims : ℕ → build-lts.Claims
 claims t = (
   node-at-reads.Asked,
   node-at-reads.Learnt,
-  progress-reads.Asked,
-  progress-reads.Learnt,
-  append-reads.Asked,
-  append-reads.Learnt,
+  pack-reads.Asked,
+  pack-reads.Learnt,
+  write-next-reads.Asked,
+  write-next-reads.Learnt,
   build-below t,
   build.Post,
+  control-of-reads.Asked,
+  control-of-reads.Learnt,
   take-line-reads.Asked,
   take-line-reads.Learnt,
+  write-and-reads.Asked,
+  write-and-reads.Learnt,
 )
 
 module _ (t : ℕ) where
@@ -73,26 +82,26 @@ module _ (t : ℕ) where
   enum-told : build-lts.Need-enum-told (claims t) (build-at t) build.Post
   enum-told c = search needs
 
-  progress-requires : build-lts.Need-progress-requires (claims t) (build-at t) build.Post
-  progress-requires c κs = (few-now (c .before .before .before .before .before .pre .1), free-low (c .before .before .before .before .before .pre .1))
+  pack-requires : build-lts.Need-pack-requires (claims t) (build-at t) build.Post
+  pack-requires c κs = (few-now (c .before .before .before .before .before .pre .1), free-low (c .before .before .before .before .before .pre .1))
 
   enum-told-2 : build-lts.Need-enum-told-2 (claims t) (build-at t) build.Post
   enum-told-2 c = search needs
 
-  append-requires : build-lts.Need-append-requires (claims t) (build-at t) build.Post
-  append-requires c κs = room-one (c .before .before .before .before .before .before .pre .1) (as-one (c .before))
+  write-next-requires : build-lts.Need-write-next-requires (claims t) (build-at t) build.Post
+  write-next-requires c κs = room-one (c .before .before .before .before .before .before .pre .1) (as-one (c .before))
 
   enum-known-node : build-lts.Need-enum-known-node (claims t) (build-at t) build.Post
   enum-known-node c = search needs
 
-  append-requires-2 : build-lts.Need-append-requires-2 (claims t) (build-at t) build.Post
-  append-requires-2 c κs = room-input (c .before .before .before .before .before .before .before .pre .1) (as-input (c .before .before))
+  write-next-requires-2 : build-lts.Need-write-next-requires-2 (claims t) (build-at t) build.Post
+  write-next-requires-2 c κs = room-input (c .before .before .before .before .before .before .before .pre .1) (as-input (c .before .before))
 
   enum-known-node-2 : build-lts.Need-enum-known-node-2 (claims t) (build-at t) build.Post
   enum-known-node-2 c = search needs
 
-  append-requires-3 : build-lts.Need-append-requires-3 (claims t) (build-at t) build.Post
-  append-requires-3 c κs = room-not (c .before .before .before .before .before .before .before .pre .1) (as-not (c .before .before))
+  write-next-requires-3 : build-lts.Need-write-next-requires-3 (claims t) (build-at t) build.Post
+  write-next-requires-3 c κs = room-not (c .before .before .before .before .before .before .before .pre .1) (as-not (c .before .before))
 
   cast-build : build-lts.Need-cast-build (claims t) (build-at t) build.Post
   cast-build c = search needs
@@ -101,7 +110,7 @@ module _ (t : ℕ) where
   add-build c = search needs
 
   build-requires : build-lts.Need-build-requires (claims t) (build-at t) build.Post
-  build-requires c κs = let k = as-not (c .before .before .before .before .before .before) in (omega (arith, k .only .low, c .before .before .before .before .before .before .before .before .before .before .before .pre .0), room-under (c .before .before .before .before .before .before .before .before .before .before .before .pre .1) k (c .before .before .before .append3 .kept .0))
+  build-requires c κs = let k = as-not (c .before .before .before .before .before .before) in (omega (arith, k .only .low, c .before .before .before .before .before .before .before .before .before .before .before .pre .0), room-under (c .before .before .before .before .before .before .before .before .before .before .before .pre .1) k (c .before .before .before .write-next3 .kept .0))
 
   enum-known-node-3 : build-lts.Need-enum-known-node-3 (claims t) (build-at t) build.Post
   enum-known-node-3 c = search needs
@@ -127,61 +136,84 @@ module _ (t : ℕ) where
   enum-known-node-4 : build-lts.Need-enum-known-node-4 (claims t) (build-at t) build.Post
   enum-known-node-4 c = search needs
 
-  cast-first : build-lts.Need-cast-first (claims t) (build-at t) build.Post
-  cast-first c = omega (arith, free-low (c .before .before .before .before .before .before .pre .1))
+  cast-control-of : build-lts.Need-cast-control-of (claims t) (build-at t) build.Post
+  cast-control-of c = search needs
+
+  control-of-requires : build-lts.Need-control-of-requires (claims t) (build-at t) build.Post
+  control-of-requires c κs = (as-and (c .before) .first .valid, free-low (c .before .before .before .before .before .before .pre .1))
+
+  pack-requires-2 : build-lts.Need-pack-requires-2 (claims t) (build-at t) build.Post
+  pack-requires-2 c κs = (few-now (c .before .before .before .before .before .before .before .pre .1), free-low (c .before .before .before .before .before .before .before .pre .1))
+
+  cast-if1 : build-lts.Need-cast-if1 (claims t) (build-at t) build.Post
+  cast-if1 c = search needs
 
   cast-build-4 : build-lts.Need-cast-build-4 (claims t) (build-at t) build.Post
   cast-build-4 c = search needs
 
   take-line-requires : build-lts.Need-take-line-requires (claims t) (build-at t) build.Post
-  take-line-requires c κs = line-first (c .before .before .before .before .before .before .pre .1) (as-and (c .before))
+  take-line-requires c κs = line-first (c .before .before .before .before .before .before .before .before .before .pre .1) (as-and (c .before .before .before .before)) (c .before .before .control-of .ensures) (c .if1 .taken)
 
   build-requires-4 : build-lts.Need-build-requires-4 (claims t) (build-at t) build.Post
-  build-requires-4 c κs = let k = as-and (c .before .before .before) in (omega (arith, k .first .low, c .before .before .before .before .before .before .before .before .pre .0), room-and-first (c .before .before .before .before .before .before .before .before .pre .1) k (c .before .take-line .ensures) (omega (arith, c .before .before .before .before .before .before .before .before .pre .1 .taken)) (omega (arith, c .before .take-line .ensures)))
+  build-requires-4 c κs = let k = as-and (c .before .before .before .before .before .before) in (omega (arith, k .first .low, c .before .before .before .before .before .before .before .before .before .before .before .pre .0), room-and-first (c .before .before .before .before .before .before .before .before .before .before .before .pre .1) k (c .before .before .before .before .control-of .ensures) (c .before .before .if1 .taken) (c .before .take-line .ensures))
 
-  cast-second : build-lts.Need-cast-second (claims t) (build-at t) build.Post
-  cast-second c = search needs
+  -- the first operand is made, on either way
+  first-made : (c : build-lts.Joined1 (claims t) (build-at t) build.Post) → Made (treeIn (now (c .before .before .before .before .before .before .before .before .before .args .nodes)) (c .before .before .before .before .node4 .given .0 .0)) (c .before .before .before .before .before .before .before .before .before .args .gates) (c .before .before .before .before .before .before .before .before .before .args .free) (c .if1 .p) (now (c .before .before .before .before .before .before .before .before .before .args .area)) (c .if1 .area)
+  first-made c =
+      ⊎-elim
+      (λ w. made-first (c .before .before .before .before .before .before .before .before .before .pre .1) (as-and (c .before .before .before .before)) (c .before .before .control-of .ensures) (w .0 .taken) (w .1 .ensures) (w .3 .ensures) (w .6) (w .7))
+      (λ w. made-input (c .before .before .control-of .ensures) (w .0 .left) (free-low (c .before .before .before .before .before .before .before .before .before .pre .1)) (c .before .pack2 .ensures) (w .1) (w .2))
+      (c .if1 .came)
+
+  cast-control-of-2 : build-lts.Need-cast-control-of-2 (claims t) (build-at t) build.Post
+  cast-control-of-2 c = search needs
+
+  control-of-requires-2 : build-lts.Need-control-of-requires-2 (claims t) (build-at t) build.Post
+  control-of-requires-2 c κs = (as-and (c .before .before .before .before .before) .second .valid, omega arith)
+
+  cast-if2 : build-lts.Need-cast-if2 (claims t) (build-at t) build.Post
+  cast-if2 c = search needs
 
   cast-build-5 : build-lts.Need-cast-build-5 (claims t) (build-at t) build.Post
   cast-build-5 c = search needs
 
   take-line-requires-2 : build-lts.Need-take-line-requires-2 (claims t) (build-at t) build.Post
-  take-line-requires-2 c κs = line-second (c .before .before .before .before .before .before .before .before .before .before .before .pre .1) (as-and (c .before .before .before .before .before .before)) (c .before .before .before .before .take-line .ensures) (c .before .before .build4 .ensures)
+  take-line-requires-2 c κs = line-second (c .before .before .before .before .before .before .before .before .before .before .before .before .pre .1) (as-and (c .before .before .before .before .before .before .before)) (first-made (c .before .before .before)) (c .before .control-of2 .ensures) (c .if2 .taken)
 
   build-requires-5 : build-lts.Need-build-requires-5 (claims t) (build-at t) build.Post
-  build-requires-5 c κs =
-      let k = as-and (c .before .before .before .before .before .before .before .before) in
-      let m = c .before .before .before .before .before .before .before .before .before .before .before .before .before .pre .1 in
-      let u = c .before .before .before .before .before .before .take-line .ensures in
-      let v = c .before .before .before .before .build4 .ensures in
-      let u′ = c .before .take-line2 .ensures in (
-        omega (arith, k .second .low, c .before .before .before .before .before .before .before .before .before .before .before .before .before .pre .0),
-        room-and-second m k u v u′ (omega (arith, m .taken, u, by-numbers v .free-to)) (omega (arith, m .taken, u, by-numbers v .free-to, u′)) (c .before .before .before .before .build4 .kept .1 .1 .1 .1 .1 .0),
-      )
+  build-requires-5 c κs = let k = as-and (c .before .before .before .before .before .before .before .before .before) in (omega (arith, k .second .low, c .before .before .before .before .before .before .before .before .before .before .before .before .before .before .pre .0), room-and-second (c .before .before .before .before .before .before .before .before .before .before .before .before .before .before .pre .1) k (first-made (c .before .before .before .before .before)) (c .before .before .before .control-of2 .ensures) (c .before .before .if2 .taken) (c .before .take-line2 .ensures))
 
-  append-requires-4 : build-lts.Need-append-requires-4 (claims t) (build-at t) build.Post
-  append-requires-4 c κs = room-toffoli (c .before .before .before .before .before .before .before .before .before .before .before .before .before .before .before .before .before .pre .1) (as-and (c .before .before .before .before .before .before .before .before .before .before .before .before)) (c .before .before .before .before .before .before .before .before .before .before .take-line .ensures) (c .before .before .before .before .before .before .before .before .build4 .ensures) (c .before .before .before .before .before .take-line2 .ensures) (c .before .before .before .build5 .ensures) (c .before .before .before .build5 .kept .1 .1 .1 .1 .1 .0 ∙ c .before .before .before .before .before .before .before .before .build4 .kept .1 .1 .1 .1 .1 .0)
+  -- and so is the second
+  second-made : (c : build-lts.Joined2 (claims t) (build-at t) build.Post) → Made (treeIn (now (c .before .before .before .before .before .before .before .before .before .before .before .before .args .nodes)) (c .before .before .before .before .before .before .before .node4 .given .0 .1 .0)) (c .before .before .before .if1 .p / lineNumbers) (c .before .before .before .if1 .p % lineNumbers) (c .if2 .p) (c .before .before .before .if1 .area) (c .if2 .area)
+  second-made c =
+      ⊎-elim
+      (λ w. made-second (c .before .before .before .before .before .before .before .before .before .before .before .before .pre .1) (as-and (c .before .before .before .before .before .before .before)) (first-made (c .before .before .before)) (c .before .control-of2 .ensures) (w .0 .taken) (w .1 .ensures) (w .3 .ensures) (w .6) (w .7))
+      (λ w. made-input (c .before .control-of2 .ensures) (w .0 .left) (omega arith) (still (c .before .before .before .if1 .p)) (w .1) (w .2))
+      (c .if2 .came)
+
+  write-and-requires : build-lts.Need-write-and-requires (claims t) (build-at t) build.Post
+  write-and-requires c κs = room-and (c .before .before .before .before .before .before .before .before .before .before .before .before .before .before .pre .1) (as-and (c .before .before .before .before .before .before .before .before .before)) (first-made (c .before .before .before .before .before)) (second-made (c .before .before))
 
   returns : build-lts.Need-returns (claims t) (build-at t) build.Post
-  returns c = rw (as-zero (c .before)) (built-zero _ _ _ _ (free-low (c .before .before .before .before .before .before .pre .1)) (c .progress .ensures))
+  returns c = rw (as-zero (c .before)) (built-zero _ _ _ _ (free-low (c .before .before .before .before .before .before .pre .1)) (c .pack .ensures))
 
   same-length : build-lts.Need-same-length (claims t) (build-at t) build.Post
   same-length c = search needs
 
   returns-2 : build-lts.Need-returns-2 (claims t) (build-at t) build.Post
-  returns-2 c = rw (as-one (c .before .before .before .before)) (built-one (c .before .before .append .ensures))
+  returns-2 c = rw (as-one (c .before .before .before .before)) (built-one (c .before .before .write-next .ensures))
 
   same-length-2 : build-lts.Need-same-length-2 (claims t) (build-at t) build.Post
   same-length-2 c = search needs
 
   returns-3 : build-lts.Need-returns-3 (claims t) (build-at t) build.Post
-  returns-3 c = rw (as-input (c .before .before .before .before .before)) (built-input (c .before .before .append2 .ensures))
+  returns-3 c = rw (as-input (c .before .before .before .before .before)) (built-input (c .before .before .write-next2 .ensures))
 
   same-length-3 : build-lts.Need-same-length-3 (claims t) (build-at t) build.Post
   same-length-3 c = search needs
 
   returns-4 : build-lts.Need-returns-4 (claims t) (build-at t) build.Post
-  returns-4 c = rw (as-not (c .before .before .before .before .before .before .before .before .before) .is) (built-not (c .before .before .before .before .before .before .append3 .ensures) (c .before .before .build .ensures))
+  returns-4 c = rw (as-not (c .before .before .before .before .before .before .before .before .before) .is) (built-not (c .before .before .before .before .before .before .write-next3 .ensures) (c .before .before .build .ensures))
 
   same-length-4 : build-lts.Need-same-length-4 (claims t) (build-at t) build.Post
   same-length-4 c = search needs
@@ -190,10 +222,10 @@ module _ (t : ℕ) where
   returns-5 c = rw (as-xor (c .before .before .before .before .before .before .before .before .before) .is) (built-xor (c .before .before .before .before .before .before .build2 .ensures) (c .before .before .build3 .ensures))
 
   same-length-5 : build-lts.Need-same-length-5 (claims t) (build-at t) build.Post
-  same-length-5 c = search needs
+  same-length-5 c = c .before .before .write-and .kept .0 ∙ made-same (second-made (c .before .before .before .before .before)) ∙ made-same (first-made (c .before .before .before .before .before .before .before .before))
 
   returns-6 : build-lts.Need-returns-6 (claims t) (build-at t) build.Post
-  returns-6 c = rw (as-and (c .before .before .before .before .before .before .before .before .before .before .before .before .before .before .before) .is) (built-and (c .before .before .before .before .before .before .before .before .before .before .before .before .before .take-line .ensures) (c .before .before .before .before .before .before .before .before .before .before .before .build4 .ensures) (c .before .before .before .before .before .before .before .before .take-line2 .ensures) (c .before .before .before .before .before .before .build5 .ensures) (c .before .before .append4 .ensures))
+  returns-6 c = rw (as-and (c .before .before .before .before .before .before .before .before .before .before .before .before) .is) (built-and (c .before .before .before .before .before .before .before .before .before .before .control-of .ensures) (first-made (c .before .before .before .before .before .before .before .before)) (c .before .before .before .before .before .before .control-of2 .ensures) (second-made (c .before .before .before .before .before)) (c .before .before .write-and .ensures))
 
 pub +build-spec : {M : Type 1} → statement M
 +build-spec =
@@ -205,13 +237,13 @@ pub +build-spec : {M : Type 1} → statement M
     build.Post
     (node-at-requires t)
     (enum-told t)
-    (progress-requires t)
+    (pack-requires t)
     (enum-told-2 t)
-    (append-requires t)
+    (write-next-requires t)
     (enum-known-node t)
-    (append-requires-2 t)
+    (write-next-requires-2 t)
     (enum-known-node-2 t)
-    (append-requires-3 t)
+    (write-next-requires-3 t)
     (cast-build t)
     (add-build t)
     (build-requires t)
@@ -221,15 +253,20 @@ pub +build-spec : {M : Type 1} → statement M
     (cast-build-3 t)
     (build-requires-3 t)
     (enum-known-node-4 t)
-    (cast-first t)
+    (cast-control-of t)
+    (control-of-requires t)
+    (pack-requires-2 t)
+    (cast-if1 t)
     (cast-build-4 t)
     (take-line-requires t)
     (build-requires-4 t)
-    (cast-second t)
+    (cast-control-of-2 t)
+    (control-of-requires-2 t)
+    (cast-if2 t)
     (cast-build-5 t)
     (take-line-requires-2 t)
     (build-requires-5 t)
-    (append-requires-4 t)
+    (write-and-requires t)
     (returns t)
     (same-length t)
     (returns-2 t)
