@@ -41,7 +41,7 @@ operands-counted c a b f ha hb =
     counted-append c (operandGates (inputOf a) A) (operandGates (inputOf b) B)
     ∙ ap₂ _+_ (made-counted c (inputOf a) A (builtCount c a) ha) (made-counted c (inputOf b) B (builtCount c b) hb)
 
--- the gate of an AND counts as much as the same input says, where inputs are below the work lines
+-- the gate of an AND counts what the inputs that its operands name say, where inputs are below the work lines
 gate-counted : (c : ℕ) (q r : Option ℕ) (f g t : ℕ) → ((i : ℕ) → q ≡ some i → i < g) → ((j : ℕ) → r ≡ some j → j < f) → (q ≡ none → f < g)
     → counted c (andGate (controlFrom q f) (controlFrom r g) t ∷ []) ≡ andCount c q r
 unfolding counted andGate andCount
