@@ -50,6 +50,10 @@ typedef struct {
 
 /* Reads and checks a program file.
  *
+ * The second byte of a node is its mark: 0, or 1 on an AND. Any other byte, and 1 on any other kind,
+ * is refused with 5 at that node. A mark changes what oracle_compile and oracle_quote answer, and
+ * nothing else.
+ *
  * Result: value is the number of nodes, inputs and outputs are the program's, work is 0. Refusals:
  * 1 to 6. The file is only read.
  */
@@ -70,7 +74,8 @@ oracle_answer oracle_evaluate(const uint8_t *file, size_t file_length,
                               uint64_t output);
 
 /* Quotes a program file: how many gates, Toffolis and work lines the share of each output has,
- * without building it. Whatever oracle_compile refuses with 8 to 11 is quoted too.
+ * without building it. Whatever oracle_compile refuses with 8 to 11 is quoted too. Gates that are
+ * undone at a mark count as often as they are written, and lines are the most in use together.
  *
  * counts   eight numbers for each node at least; 32,768 are always enough. After a result they are
  *          zero over the nodes, and the numbers behind are as they were. After a refusal all of it
@@ -89,6 +94,10 @@ oracle_answer oracle_quote(const uint8_t *file, size_t file_length,
 
 /* Compiles a program file to the circuit file that computes its outputs.
  *
+ * Behind the gate of a marked AND, the gates built for its two operands follow once more, last to
+ * first, and the work lines that they took are free again. A mark can save work lines, costs gates,
+ * and changes no value.
+ *
  * grant   the number of work lines that the circuit may take, at most 1,024.
  * sizes   an entry for each node at least; 4,096 are always enough. After a result and after
  *         refusals 8 to 11, entry i is the unfolded size of node i (1, and the sizes of its
@@ -100,11 +109,12 @@ oracle_answer oracle_quote(const uint8_t *file, size_t file_length,
  *
  * Result: value is the number of bytes written. Refusals: 1 to 11, checked in this order; the place
  * of 8 is the lowest output whose unfolded size is over 16,384, that of 10 the number of work lines
- * needed, and that of 11 the number of gates needed, where there are over 8,000 or the area is too
- * short for them. The program file is only read.
+ * needed, the most in use together, and that of 11 the number of gates needed, where there are over
+ * 8,000 or the area is too short for them. Nested marks multiply gates: a number over 3,000,000 is
+ * given as 3,000,001. The program file is only read.
  *
  * Stack: the construction calls itself, up to 4,096 deep. The deepest programs that were tried took
- * 724,992 bytes; lend a thread at least 2 MiB.
+ * 790,528 bytes; lend a thread at least 2 MiB.
  */
 oracle_answer oracle_compile(const uint8_t *file, size_t file_length, uint64_t grant,
                              uint16_t *sizes, size_t sizes_length,

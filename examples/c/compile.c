@@ -1,6 +1,6 @@
 /* Links liboracle.a as a loader would: compiles small program files, reads the circuit files back,
- * runs them from every start, with the work line zero and not zero, and shows refusals. It exits
- * with 1 where an answer is not the one that it expects. */
+ * runs them from every start, with the work lines zero and not zero, shows what marks save and cost,
+ * and shows refusals. It exits with 1 where an answer is not the one that it expects. */
 #include <stdio.h>
 #include <string.h>
 
@@ -72,6 +72,88 @@ static void show_three(void)
     run_three(area, THREE_CIRCUIT);
 }
 
+/* The XOR of two ANDs of three inputs each, which share two of them: INPUT 0, INPUT 1, AND 0 1,
+ * INPUT 2, AND 2 3, INPUT 3, AND 2 5, XOR 4 6; the output is node 7. */
+static const uint8_t sum_program[] = {
+    3, 0,
+    1, 0, 32, 0, 0, 0, 4,  0, 0, 0,
+    2, 0, 36, 0, 0, 0, 48, 0, 0, 0,
+    3, 0, 84, 0, 0, 0, 2,  0, 0, 0,
+    4, 0, 1, 0,                                     /* inputs, outputs */
+    2, 0, 0, 0, 0, 0,                               /* INPUT 0 */
+    2, 0, 1, 0, 0, 0,                               /* INPUT 1 */
+    5, 0, 0, 0, 1, 0,                               /* AND 0 1 */
+    2, 0, 2, 0, 0, 0,                               /* INPUT 2 */
+    5, 0, 2, 0, 3, 0,                               /* AND 2 3 */
+    2, 0, 3, 0, 0, 0,                               /* INPUT 3 */
+    5, 0, 2, 0, 5, 0,                               /* AND 2 5 */
+    4, 0, 4, 0, 6, 0,                               /* XOR 4 6 */
+    7, 0,                                           /* output 0 is node 7 */
+};
+
+enum { SUM_PROGRAM = sizeof sum_program, SUM_NODES = 8, SUM_INPUTS = 4, MOST_LINES = 7 };
+
+/* Where the mark of a node is: its second byte. */
+static size_t mark_of(size_t node)
+{
+    return 36 + 6 * node + 1;
+}
+
+/* Runs a circuit of the XOR from every start. Every line but the target ends as it started, and the
+ * target has the value in it where the work lines started at zero. */
+static void run_sum(const uint8_t *circuit, size_t length, size_t count)
+{
+    for (unsigned bits = 0; bits < 1u << count; bits++) {
+        uint8_t start[MOST_LINES], lines[MOST_LINES];
+        for (size_t i = 0; i < count; i++)
+            lines[i] = start[i] = bits >> i & 1;
+        const uint8_t value = start[0] & start[1] & (start[2] ^ start[3]);
+        const bool from_zero = filled(start + SUM_INPUTS + 1, count - SUM_INPUTS - 1, 0);
+
+        holds(oracle_run_forwards(circuit, length, lines, count).number == 0, "a run of the XOR");
+        holds(!from_zero || lines[SUM_INPUTS] == (start[SUM_INPUTS] ^ value), "the target");
+        lines[SUM_INPUTS] = start[SUM_INPUTS];
+        holds(memcmp(lines, start, count) == 0, "the lines beside the target");
+    }
+    printf("from each of %d starts as it has to be\n", 1 << count);
+}
+
+/* Compiles the XOR with just as many work lines as it needs, runs it, and shows that one fewer is
+ * refused. */
+static void show_sum(const char *what, const uint8_t *program, uint64_t work, uint64_t gates)
+{
+    uint8_t circuit[28 + 8 * 10];
+    uint16_t list[SUM_NODES];
+    const size_t length = 28 + 8 * gates;
+
+    show(what, oracle_compile(program, SUM_PROGRAM, work, list, SUM_NODES, circuit, length), 0,
+         length);
+    show_head("gates", oracle_read_circuit(circuit, length),
+              (oracle_head){.value = gates, .inputs = SUM_INPUTS, .outputs = 1, .work = work});
+    printf("work lines: %d\n", (int)work);
+    run_sum(circuit, length, SUM_INPUTS + 1 + work);
+    show("a work line fewer",
+         oracle_compile(program, SUM_PROGRAM, work - 1, list, SUM_NODES, circuit, length), 10,
+         work);
+}
+
+/* With a mark at both ANDs, nodes 4 and 6, the work line of the first one is free again when the
+ * second is built. So there is one work line and not two, and there are four gates more. */
+static void show_marks(void)
+{
+    uint8_t marked[SUM_PROGRAM];
+    memcpy(marked, sum_program, SUM_PROGRAM);
+    show_sum("bytes, XOR of two ANDs", marked, 2, 6);
+    marked[mark_of(4)] = marked[mark_of(6)] = 1;
+    show_sum("bytes, the same with marks", marked, 1, 10);
+
+    marked[mark_of(6)] = 2;
+    show("mark 2", oracle_compile(marked, SUM_PROGRAM, 2, sizes, SIZES, area, AREA), 5, 6);
+    marked[mark_of(6)] = 0;
+    marked[mark_of(7)] = 1;
+    show("mark on XOR", oracle_compile(marked, SUM_PROGRAM, 2, sizes, SIZES, area, AREA), 5, 7);
+}
+
 static void show_refusals(void)
 {
     refill();
@@ -102,6 +184,7 @@ int main(void)
 {
     show_two();
     show_three();
+    show_marks();
     show_refusals();
     return all_as_expected ? 0 : 1;
 }

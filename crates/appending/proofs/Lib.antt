@@ -1,3 +1,4 @@
 pub mod CopyLaws
 pub mod HeldLaws
 pub mod ReverseLaws
+pub mod StoredLaws

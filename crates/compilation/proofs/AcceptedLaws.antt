@@ -15,6 +15,8 @@ use Rattle.circuit.specs.declared.reader.CircuitHead.{CircuitHead}
 use Rattle.circuit.specs.Circuits.{Circuit, headOf, Legal}
 use Rattle.circuit.specs.Format.{fileLength, circuitFile}
 use Rattle.wire.specs.Areas.{areaAfter}
+use Rattle.circuit.specs.Reading.{readCircuit}
+use Rattle.circuit.proofs.FileLaws.{reads-back}
 use Rattle.circuit.proofs.FormatLaws.{file-length}
 use Rattle.program.specs.Programs.{Program}
 use Rattle.program.specs.Reading.{programOf, readProgram}
@@ -99,3 +101,7 @@ module _ (f : List ℕ) (grant : ℕ) (sizes area : List ℕ) (h : CircuitHead) 
         let n : length (circuitFile c) ≡ fileLength (h .gates) = file-length c ∙ ap (λ (t : CircuitHead). fileLength (t .gates)) (sym (a .head)) in
         ap (fileWritten h) (ap (λ x. areaAfter (mapAnswer circuitFile x) area) (a .is))
         ∙ take-at (circuitFile c) (drop (length (circuitFile c)) area) (fileLength (h .gates)) n
+
+    -- and it reads back
+    pub read-back : readCircuit (fileWritten h (compileOf f grant sizes area .area)) ≡ result (programCircuit (programOf f))
+    read-back = ap readCircuit written ∙ reads-back (programCircuit (programOf f)) legal

@@ -15,7 +15,6 @@ use Rattle.circuit.specs.declared.reader.CircuitHead.{CircuitHead}
 use Rattle.circuit.specs.Circuits.{Circuit, lineCount}
 use Rattle.circuit.specs.Reading.{readCircuit}
 use Rattle.circuit.proofs.AcceptedLaws.{has-lines}
-use Rattle.circuit.proofs.FileLaws.{reads-back}
 use Rattle.run.specs.RunCircuit.{runForwards}
 use Rattle.node.specs.Exprs.{Expr, value}
 use Rattle.program.specs.Programs.{Program, headOf, outputValue}
@@ -29,7 +28,7 @@ use Rattle.evaluate.proofs.EvaluateLaws.{output-answered}
 use Rattle.compilation.specs.Compiling.{outputTrees, programCircuit, compileOf}
 use Rattle.compilation.specs.Demand.{fileWritten, firstOutputs, Run, Demand3, Demand3Holds}
 use Rattle.compilation.proofs.OutputLaws.{trees-length, tree-is, trees-inputs}
-use Rattle.compilation.proofs.AcceptedLaws.{accepted, legal, written}
+use Rattle.compilation.proofs.AcceptedLaws.{accepted, read-back}
 
 -- the run of a file that reads as the circuit of an accepted program
 module _ (f : List ℕ) (a : program.Accepted f) (start : List ℕ) (s : Start (lineCount (programCircuit (programOf f))) start) where
@@ -109,8 +108,7 @@ demand-3 file grant sizes area = record {
       let a = accepted file grant sizes area h e in
       let p : Program = programOf file in
       let g : List ℕ = fileWritten h (compileOf file grant sizes area .area) in
-      let back : readCircuit g ≡ result (programCircuit p) =
-      ap readCircuit (written file grant sizes area h a) ∙ reads-back (programCircuit p) (legal file grant sizes area h a) in
+      let back : readCircuit g ≡ result (programCircuit p) = read-back file grant sizes area h a in
       record {
         program = p;
         read = a .reads .is;

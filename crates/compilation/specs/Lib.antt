@@ -1,2 +1,4 @@
 pub mod Compiling
 pub mod Demand
+pub mod Marks
+pub mod Unmarked

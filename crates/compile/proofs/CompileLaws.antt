@@ -25,6 +25,10 @@ use Rattle.program.proofs.BodyLaws.{body-nodes, head-nodes, fillable}
 use Rattle.sizing.specs.Sizing.{nodeSizes}
 use Rattle.node.specs.Steps.{Fillable}
 use Rattle.compilation.specs.Compiling.{compileProgram, readWithSizes, compileFile, sizesAfter, compileOf}
+use Rattle.compilation.specs.Demand.{Demand3}
+use Rattle.compilation.specs.Marks.{MarksClean}
+use Rattle.compilation.proofs.DemandLaws.{demand-met}
+use Rattle.compilation.proofs.MarkLaws.{marks-met}
 use Rattle.compile.specs.Steps.{Listed}
 
 module _ (f : List ℕ) (grant : ℕ) (sizes area : List ℕ) where
@@ -81,3 +85,8 @@ module _ {f : List ℕ} {h : Head} (r : Read f h) where
 
   pub listed : (old : List ℕ) {new : List ℕ} → new ≡ nodeSizes (nodesIn (bodyOf f 1)) ++ drop (length (bodyOf f 1) / 6) old → Listed f h new
   listed old e = record { reads = r .accepts .is; numbers = r .head; later = drop (length (bodyOf f 1) / 6) old; listed = e ∙ ap (λ (ns : List Node). nodeSizes ns ++ drop (length (bodyOf f 1) / 6) old) (same-nodes f (r .accepts)) }
+
+-- what is promised of every answer and area that are what compiling gives and leaves
+pub promises : (file : List ℕ) (grant : ℕ) (sizes area : List ℕ) {answer : Answer CircuitHead} {after : List ℕ}
+    → answer ≡ compileOf file grant sizes area .answer → after ≡ compileOf file grant sizes area .area → Demand3 file answer after × MarksClean file answer after
+promises file grant sizes area e q = (demand-met file grant sizes area e q, marks-met file grant sizes area e q)

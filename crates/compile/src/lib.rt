@@ -24,6 +24,7 @@ ghost use Rattle.compilation.specs.Compiling.{compileProgram, compileOf};
 ghost use Rattle.compile.specs.Answers.{compiled};
 ghost use Rattle.compile.specs.Steps.{Listed};
 ghost use Rattle.compilation.specs.Demand.{Demand3};
+ghost use Rattle.compilation.specs.Marks.{MarksClean};
 
 // What compiling answers: the numbers of the circuit written.
 pub enum Compiled {
@@ -84,6 +85,7 @@ pub fn compile(file: &[u8], grant: u64, sizes: &mut [u16], area: &mut [u8]) -> C
     ensures { λ _. ⌜ now (sizes .exit) ≡ compileOf (now (file .entry)) grant (now (sizes .entry)) (now (area .entry)) .sizes ⌝ }
     ensures { λ _. ⌜ now (area .exit) ≡ compileOf (now (file .entry)) grant (now (sizes .entry)) (now (area .entry)) .area ⌝ }
     ensures { λ r. ⌜ Demand3 (now (file .entry)) (compiled r) (now (area .exit)) ⌝ }
+    ensures { λ r. ⌜ MarksClean (now (file .entry)) (compiled r) (now (area .exit)) ⌝ }
 {
     let answer = read_program(file);
     let ProgramRead::Good(head) = answer else {

@@ -1,35 +1,42 @@
 -- Laws of writing a tree's gates: what was written for the operands goes together, and there is room for each. Assumes nothing.
-use Prim.Native.Nat.{ℕ, _+_, _/_, _%_, _≤_, _<_}
+use Prim.Native.Nat.{ℕ, _+_, _-_, _/_, _%_, _≤_, _<_}
 use native.Mathlib.Omega.{arith}
 use native.Mathlib.Nat.{add-zero}
-use mathlib.Core.Path.{_≡_, refl, sym, ap, _∙_}
+use mathlib.Core.Path.{_≡_, refl, sym, ap, ap₂, _∙_}
 use mathlib.Core.Logic.{_≢_}
+use mathlib.Core.Bool.{Bool, true, false}
 use mathlib.Core.Option.{Option, none, some}
-use mathlib.Core.List.{List, [], _∷_}
-use lib.ListN.{length}
+use mathlib.Core.List.{List, [], _∷_, _++_, reverse, append-assoc}
+use lib.ListN.{length, length-append, length-reverse}
+use lib.Dec.{eqb}
 use Rattle.wire.specs.Limits.{mostGates}
 use Rattle.gate.specs.declared.gates.Gate.{Gate}
 use Rattle.gate.specs.declared.gates.Gate.the-variants.{Not, Cnot}
+use Rattle.gate.specs.Running.{uncompute}
+use Rattle.gate.proofs.UncomputeLaws.{without-none}
 use Rattle.circuit.specs.Format.{fileLength}
-use Rattle.areas.specs.AreaGates.{Stored}
+use Rattle.areas.specs.AreaGates.{putGates, gatesFrom, Stored}
 use Rattle.areas.proofs.AreaLaws.{stored-none, stored-then}
 use Rattle.areas.proofs.WriterLaws.{put-length}
+use Rattle.appending.proofs.StoredLaws.{stored-back, stored-order}
 use Rattle.node.specs.Exprs.{Expr, ZERO, ONE, INPUT, NOT, XOR, AND, InputsBelow}
 use Rattle.node.specs.Nodes.{nodesIn}
 use Rattle.node.proofs.TreeLaws.{trees-below}
 use Rattle.program.specs.Tables.{treeIn}
 use Rattle.program.proofs.OperandLaws.{Operand, Unary, Binary}
-use Rattle.construction.specs.Pools.{allFree, lowestFree}
-use Rattle.construction.specs.Construction.{inputOf, andGate}
-use Rattle.construction.specs.Steps.{operandCount, builtCount}
-use Rattle.construction.proofs.Numbers.{controlFrom, operandGates, operandLines, held, most, nextFree, buildFrom}
+use Rattle.construction.specs.Construction.{inputOf, andGate, cleaning}
+use Rattle.construction.specs.Steps.{operandCount, cleaningCount, builtCount}
+use Rattle.construction.proofs.Numbers.{controlFrom, operandGates, operandLines, held, most, nextFree, buildFrom, ApartFrom}
 use Rattle.construction.proofs.AndLaws.{input-below, lines-built}
-use Rattle.construction.proofs.PoolLaws.{tree-lines, start-free, control-is}
+use Rattle.construction.proofs.PoolLaws.{tree-lines}
 use Rattle.construction.proofs.CountLaws.{build-length, made-length, and-one}
-use Rattle.construction.proofs.LineLaws.{most-not, most-xor-first, most-xor-second, most-and-first, most-and-second}
-use Rattle.progress.specs.Progress.{lineNumbers, packed, single, tree, Wrote}
+use Rattle.construction.proofs.LineLaws.{most-not, most-xor-first, most-xor-second, most-and-first, most-and-second, operandsFrom, operands-formed, operands-miss}
+use Rattle.pool.specs.LinePools.{lineNumbers}
+use Rattle.controls.specs.Controls.{ControlIs}
+use Rattle.controls.proofs.ControlLaws.{control-at, at-free}
+use Rattle.progress.specs.Progress.{packed, single, tree, Wrote, madeSince, Cleanable, CleanedUp}
 use Rattle.progress.proofs.ProgressLaws.{by-numbers, wrote, packed-gates, packed-free}
-use Rattle.construct.specs.Writing.{ControlIs, Room}
+use Rattle.construct.specs.Writing.{Room}
 
 -- a tree's gates, from those of its operands
 pub built-zero : (t k f : ℕ) {r : ℕ} (l : List ℕ) → f < lineNumbers → r ≡ packed k f → Wrote (tree ZERO t) k f r l l
@@ -59,31 +66,12 @@ built-xor v w =
     let rest = by-numbers w in
     wrote (record { stored = stored-then (first .stored) (rw (first .free-to) at (rest .stored)); free-to = omega (arith, rest .free-to, first .free-to) })
 
--- the control of an operand, by what it is
-pub control-input : {e : Expr} {f j : ℕ} → e ≡ INPUT j → ControlIs e f j
-unfolding inputOf controlFrom
-control-input {e} {f} {j} h = record { is = λ q low. sym (control-is (inputOf e) _ q ∙ ap (λ (x : Expr). controlFrom (inputOf x) (lowestFree q)) h) }
-
-pub control-free : {e : Expr} {f : ℕ} → inputOf e ≡ none → ControlIs e f f
-unfolding controlFrom
-control-free {e} {f} h = record { is = λ q low. sym (control-is (inputOf e) _ q ∙ ap (λ (o : Option ℕ). controlFrom o (lowestFree q)) h ∙ low) }
-
 -- an operand of AND is made, by numbers
 pub record Made (e : Expr) (k f p : ℕ) (old new : List ℕ) : Type 0 where
   pub stored : Stored (operandGates (inputOf e) (buildFrom e f (f + 1))) k (p / lineNumbers) old new
   pub free-to : p % lineNumbers ≡ f + operandLines (inputOf e) (held e)
 
--- its control, by numbers
-pub control-at : {e : Expr} {f r : ℕ} → ControlIs e f r → r ≡ controlFrom (inputOf e) f
-control-at {e} {f} c = c .is (allFree f) (start-free f) ∙ control-is (inputOf e) _ (allFree f) ∙ ap (controlFrom (inputOf e)) (start-free f)
-
--- a control that is the lowest free line is no input's
-at-free : (q : Option ℕ) (n f : ℕ) → ((j : ℕ) → q ≡ some j → j < n) → n ≤ f → controlFrom q f ≡ f → q ≡ none
-unfolding controlFrom
-at-free (some j) n f h low e = absurd (omega (arith, h j refl))
-at-free none n f h low e = refl
-
--- and one that is not is an input's: nothing is built, and no line is taken
+-- a control that is not the lowest free line is an input's: nothing is built, and no line is taken
 none-made : (q : Option ℕ) (f k : ℕ) (gs : List Gate) → controlFrom q f ≢ f → (operandGates q gs ≡ []) × (operandLines q k ≡ 0)
 unfolding controlFrom operandGates operandLines
 none-made (some j) f k gs h = (refl, refl)
@@ -113,22 +101,74 @@ module _ {e : Expr} {k f p : ℕ} {l l₁ : List ℕ} where
   pub made-same : Made e k f p l l₁ → length l₁ ≡ length l
   made-same v = ap (λ (x : List ℕ). length x) (v .stored .area-to) ∙ put-length l k (operandGates (inputOf e) (buildFrom e f (f + 1)))
 
--- an AND's gates, from its operands and the gate from their controls
-pub built-and : {a b : Expr} {t c d k f p q r : ℕ} {l l₁ l₂ l₃ : List ℕ}
-    → ControlIs a f c → Made a k f p l l₁ → ControlIs b (p % lineNumbers) d → Made b (p / lineNumbers) (p % lineNumbers) q l₁ l₂
-    → Wrote (single (andGate c d t)) (q / lineNumbers) (q % lineNumbers) r l₂ l₃ → Wrote (tree (AND a b) t) k f r l l₃
-unfolding buildFrom held nextFree
-built-and {a} {b} {t} {c} {d} {k} {f} {p} {q} {r} {l} {l₁} {l₂} {l₃} ca u cb v x =
-    let last = by-numbers x in
-    let n : ℕ = nextFree f a in
-    let at : p % lineNumbers ≡ n = u .free-to in
-    let two : Stored (operandGates (inputOf b) (buildFrom b n (n + 1))) (p / lineNumbers) (q / lineNumbers) l₁ l₂ = rw at at (v .stored) in
-    let three : Stored (andGate (controlFrom (inputOf a) f) (controlFrom (inputOf b) n) t ∷ []) (q / lineNumbers) (r / lineNumbers) l₂ l₃ =
-    rw (control-at ca, control-at cb, at) at (last .stored) in
-    wrote (record {
-      stored = stored-then (stored-then (u .stored) two) three;
-      free-to = omega (arith, last .free-to, v .free-to, u .free-to);
-    })
+-- an AND's operands are made, and the gate from their controls is written
+module _ (t : ℕ) {a b : Expr} {c d k f p q x : ℕ} {l l₁ l₂ l₃ : List ℕ} (ca : ControlIs a f c) (u : Made a k f p l l₁) (cb : ControlIs b (p % lineNumbers) d)
+    (v : Made b (p / lineNumbers) (p % lineNumbers) q l₁ l₂) (w : Wrote (single (andGate c d t)) (q / lineNumbers) (q % lineNumbers) x l₂ l₃) where
+  abbrev own : Gate
+  own = andGate (controlFrom (inputOf a) f) (controlFrom (inputOf b) (nextFree f a)) t
+
+  next-at : p % lineNumbers ≡ nextFree f a
+  unfolding nextFree
+  next-at = u .free-to
+
+  made-stored : Stored (operandsFrom a b f) k (q / lineNumbers) l l₂
+  made-stored = stored-then (u .stored) (rw next-at at (v .stored))
+
+  own-stored : Stored (own ∷ []) (q / lineNumbers) (x / lineNumbers) l₂ l₃
+  own-stored = rw (control-at ca, control-at cb, next-at) at (by-numbers w .stored)
+
+  own-free : x % lineNumbers ≡ f + (operandLines (inputOf a) (held a) + operandLines (inputOf b) (held b))
+  own-free = omega (arith, by-numbers w .free-to, v .free-to, u .free-to)
+
+  -- without a mark these are its gates
+  pub built-plain : {m : Bool} → m ≡ false → Wrote (tree (AND m a b) t) k f x l l₃
+  unfolding buildFrom held nextFree cleaning
+  built-plain e = rw e (wrote (record { stored = stored-then made-stored own-stored; free-to = own-free }))
+
+  -- where they are well formed and there is room for them, those that made the operands are read back
+  module _ {n L : ℕ} (small : L ≤ 65536) (apart : ApartFrom n (AND true a b) t f L) (room : fileLength (k + length (operandsFrom a b f)) ≤ length l) where
+    last-to : x / lineNumbers - 1 - k ≡ length (operandsFrom a b f)
+    last-to = omega (arith, made-stored .count-to, own-stored .count-to)
+
+    area-is : l₃ ≡ putGates (putGates l k (operandsFrom a b f)) (k + length (operandsFrom a b f)) (own ∷ [])
+    area-is = own-stored .area-to ∙ ap₂ (λ (y : List ℕ) (i : ℕ). putGates y i (own ∷ [])) (made-stored .area-to) (made-stored .count-to)
+
+    made-back : madeSince l₃ k x ≡ operandsFrom a b f
+    made-back =
+        ap₂ (λ (y : List ℕ) (i : ℕ). gatesFrom y k i) area-is last-to
+        ∙ stored-back L small l k (operandsFrom a b f) (own ∷ []) (operands-formed n true a b t f L apart) room
+
+    -- undone as they are: none of them is on the target
+    undone-is : uncompute (eqb t) (madeSince l₃ k x) ≡ reverse (operandsFrom a b f)
+    unfolding uncompute
+    undone-is = ap (λ (gs : List Gate). uncompute (eqb t) gs) made-back ∙ ap reverse (without-none t (operandsFrom a b f) (operands-miss a b f t (apart .free)))
+
+    -- there is room to clean up behind a marked AND
+    pub cleanable : k + (length (operandsFrom a b f) + (1 + length (operandsFrom a b f))) ≤ mostGates
+        → fileLength (k + (length (operandsFrom a b f) + (1 + length (operandsFrom a b f)))) ≤ length l → Cleanable l₃ k x f t
+    cleanable few far =
+        let long : length (uncompute (eqb t) (madeSince l₃ k x)) ≡ length (operandsFrom a b f) = ap (λ (gs : List Gate). length gs) undone-is ∙ length-reverse (operandsFrom a b f) in
+        let same : length l₃ ≡ length l = ap (λ (y : List ℕ). length y) area-is ∙ put-length _ _ (own ∷ []) ∙ put-length l k (operandsFrom a b f) in
+        let to : x / lineNumbers ≡ k + length (operandsFrom a b f) + 1 = omega (arith, made-stored .count-to, own-stored .count-to) in
+        record {
+          after = omega (arith, to);
+          reversible = record {
+            ordered = omega (arith, to);
+            each = λ j h low. rw area-is (stored-order L small l k (operandsFrom a b f) (own ∷ []) (operands-formed n true a b t f L apart) room j (omega (arith, to)) low);
+            before = omega arith;
+            room = omega (arith, far, long, to, same);
+          };
+          few = omega (arith, few, long, to);
+          taken = omega (arith, own-free);
+        }
+
+    -- and then these are its gates
+    pub built-marked : {m : Bool} {r : ℕ} {l₄ : List ℕ} → m ≡ true → CleanedUp k x f t r l₃ l₄ → Wrote (tree (AND m a b) t) k f r l l₄
+    unfolding buildFrom held cleaning
+    built-marked {l₄ = l₄} e y =
+        let gs : List Gate = operandsFrom a b f in
+        let all : Stored ((gs ++ (own ∷ [])) ++ reverse gs) k _ l l₄ = stored-then (stored-then made-stored own-stored) (rw undone-is at (y .stored)) in
+        rw e (wrote (record { stored = rw (append-assoc gs (own ∷ []) (reverse gs)) at all; free-to = y .freed ∙ sym (add-zero f) }))
 
 -- the room for node i is enough for a part of it that starts later and ends no later
 room-part : {nodes : List ℕ} {i t k f : ℕ} {l : List ℕ} (a t′ k′ f′ : ℕ) (l′ : List ℕ)
@@ -207,36 +247,45 @@ module _ {nodes : List ℕ} {i t k f : ℕ} {l : List ℕ} (m : Room nodes i t k
   unfolding treeIn
   below j = trees-below (m .valid .inputs) (nodesIn nodes) (m .valid .ordered) j
 
-  module _ {a b : ℕ} (u : Binary AND nodes i a b) where
+  module _ {mark : Bool} {a b : ℕ} (u : Binary (AND mark) nodes i a b) where
     -- an operand whose control is the lowest free line is built
     is-built : (j : ℕ) {g r : ℕ} → f ≤ g → ControlIs (treeIn nodes j) g r → r ≡ g → inputOf (treeIn nodes j) ≡ none
     is-built j {g} h c e =
         at-free (inputOf (treeIn nodes j)) (m .valid .inputs) g (input-below (m .valid .inputs) (treeIn nodes j) (below j)) (omega (arith, m .behind, m .taken)) (sym (control-at c) ∙ e)
 
-    first-lines : f + operandLines (inputOf (treeIn nodes a)) (most (treeIn nodes a)) < lineNumbers
-    first-lines = omega (arith, m .lines, tree-lines (treeIn nodes i) t f, ap most (u .is), most-and-first (treeIn nodes a) (treeIn nodes b))
+    abbrev made : ℕ
+    made = operandCount (inputOf (treeIn nodes a)) (builtCount 1 (treeIn nodes a)) + operandCount (inputOf (treeIn nodes b)) (builtCount 1 (treeIn nodes b))
 
-    second-lines : f + (operandLines (inputOf (treeIn nodes a)) (held (treeIn nodes a)) + operandLines (inputOf (treeIn nodes b)) (most (treeIn nodes b))) < lineNumbers
-    second-lines = omega (arith, m .lines, tree-lines (treeIn nodes i) t f, ap most (u .is), most-and-second (treeIn nodes a) (treeIn nodes b))
-
-    gates-are : builtCount 1 (treeIn nodes i) ≡ operandCount (inputOf (treeIn nodes a)) (builtCount 1 (treeIn nodes a)) + operandCount (inputOf (treeIn nodes b)) (builtCount 1 (treeIn nodes b)) + 1
+    gates-are : builtCount 1 (treeIn nodes i) ≡ made + (1 + cleaningCount mark made)
     unfolding builtCount
     gates-are = ap (builtCount 1) (u .is) ∙ omega (arith, and-one (inputOf (treeIn nodes a)) (inputOf (treeIn nodes b)))
 
+    -- the gates that make its operands
+    made-gates : length (operandsFrom (treeIn nodes a) (treeIn nodes b) f) ≡ made
+    made-gates =
+        length-append (operandGates (inputOf (treeIn nodes a)) (buildFrom (treeIn nodes a) f (f + 1))) _
+        ∙ ap₂ _+_ (made-length (treeIn nodes a) f) (made-length (treeIn nodes b) (nextFree f (treeIn nodes a)))
+
+    -- its lines are apart
+    pub and-apart : ApartFrom (m .valid .inputs) (AND mark (treeIn nodes a) (treeIn nodes b)) t f lineNumbers
+    and-apart =
+        record {
+          inputs = (below a, below b);
+          behind = m .behind;
+          free = m .taken;
+          below = omega (arith, m .lines, tree-lines (treeIn nodes i) t f, ap most (u .is));
+        }
+
     -- where the first operand is built
     module _ {r : ℕ} (c : ControlIs (treeIn nodes a) f r) (e : r ≡ f) where
-      -- there is a line for it
-      pub line-first : f + 1 < lineNumbers
-      line-first = omega (arith, first-lines, lines-built (is-built a (omega arith) c e) (most (treeIn nodes a)))
-
-      -- and room, once that is taken
+      -- there is room for it, once it has its line
       pub room-and-first : {f′ : ℕ} → f′ ≡ f + 1 → Room nodes a r k f′ (builtCount 1 (treeIn nodes a)) l
       unfolding operandCount
       room-and-first {f′} d =
           let o : inputOf (treeIn nodes a) ≡ none = is-built a (omega arith) c e in
           room-part a r k f′ l m (u .first) (omega (arith, m .taken)) (omega arith) refl
           (omega (arith, rw o at gates-are))
-          (omega (arith, ap most (u .is), most-and-first (treeIn nodes a) (treeIn nodes b), lines-built o (most (treeIn nodes a))))
+          (omega (arith, ap most (u .is), most-and-first (treeIn nodes a) (treeIn nodes b) mark, lines-built o (most (treeIn nodes a))))
 
       -- so it is made
       pub made-first : {f′ p q : ℕ} {l₁ l′ : List ℕ} → f′ ≡ f + 1 → Wrote (tree (treeIn nodes a) r) k f′ q l l′ → l₁ ≡ l′ → p ≡ q → Made (treeIn nodes a) k f p l l₁
@@ -249,18 +298,14 @@ module _ {nodes : List ℕ} {i t k f : ℕ} {l : List ℕ} (m : Room nodes i t k
         behind : f ≤ p % lineNumbers
         behind = omega (arith, v .free-to)
 
-        -- there is a line for it
-        pub line-second : p % lineNumbers + 1 < lineNumbers
-        line-second = omega (arith, second-lines, v .free-to, lines-built (is-built b behind c e) (most (treeIn nodes b)))
-
-        -- and room, once that is taken
+        -- there is room for it, once it has its line
         pub room-and-second : {g′ : ℕ} → g′ ≡ p % lineNumbers + 1 → Room nodes b r (p / lineNumbers) g′ (builtCount 1 (treeIn nodes b)) l₁
         unfolding operandCount
         room-and-second {g′} d =
             let o : inputOf (treeIn nodes b) ≡ none = is-built b behind c e in
             room-part b r (p / lineNumbers) g′ l₁ m (u .second) (omega (arith, m .taken, behind)) (omega arith) (made-same v)
             (omega (arith, rw o at gates-are, v .stored .count-to, made-length (treeIn nodes a) f))
-            (omega (arith, ap most (u .is), most-and-second (treeIn nodes a) (treeIn nodes b), lines-built o (most (treeIn nodes b)), v .free-to))
+            (omega (arith, ap most (u .is), most-and-second (treeIn nodes a) (treeIn nodes b) mark, lines-built o (most (treeIn nodes b)), v .free-to))
 
         -- so it is made
         pub made-second : {g′ q q′ : ℕ} {l₂ l′ : List ℕ} → g′ ≡ p % lineNumbers + 1 → Wrote (tree (treeIn nodes b) r) (p / lineNumbers) g′ q′ l₁ l′ → l₂ ≡ l′ → q ≡ q′
@@ -274,3 +319,13 @@ module _ {nodes : List ℕ} {i t k f : ℕ} {l : List ℕ} (m : Room nodes i t k
           room-gate (q / lineNumbers) (q % lineNumbers) l₂ m (made-same w ∙ made-same v)
           (omega (arith, gates-are, v .stored .count-to, made-length (treeIn nodes a) f, w .stored .count-to, made-length (treeIn nodes b) (p % lineNumbers)))
           (omega arith)
+
+    -- and to clean up behind it where it is marked
+    pub room-cleaned : mark ≡ true
+        → (fileLength (k + length (operandsFrom (treeIn nodes a) (treeIn nodes b) f)) ≤ length l)
+        × (k + (length (operandsFrom (treeIn nodes a) (treeIn nodes b) f) + (1 + length (operandsFrom (treeIn nodes a) (treeIn nodes b) f))) ≤ mostGates)
+        × (fileLength (k + (length (operandsFrom (treeIn nodes a) (treeIn nodes b) f) + (1 + length (operandsFrom (treeIn nodes a) (treeIn nodes b) f)))) ≤ length l)
+    unfolding cleaningCount
+    room-cleaned e =
+        let all : builtCount 1 (treeIn nodes i) ≡ made + (1 + made) = rw e at gates-are in
+        (omega (arith, m .room, all, made-gates), omega (arith, m .few, all, made-gates), omega (arith, m .room, all, made-gates))

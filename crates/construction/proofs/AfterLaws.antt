@@ -22,7 +22,7 @@ same-front n s t l h =
     ext-getD 0 (take n s) (take n t) (omega (arith, length-take n s, length-take n t))
     (λ i b. let below : i < n = omega (arith, length-take n s) in getD-take n s i 0 below ∙ h i below ∙ sym (getD-take n t i 0 below))
 
-same-end : (n : ℕ) (s t : List ℕ) → length s ≡ length t → ((i : ℕ) → n ≤ i → i < length s → bit s i ≡ bit t i) → drop n s ≡ drop n t
+pub same-end : (n : ℕ) (s t : List ℕ) → length s ≡ length t → ((i : ℕ) → n ≤ i → i < length s → bit s i ≡ bit t i) → drop n s ≡ drop n t
 same-end n s t l h =
     ext-getD 0 (drop n s) (drop n t) (omega (arith, length-drop n s, length-drop n t))
     (λ i b. getD-drop n s i 0 ∙ h (n + i) (omega arith) (omega (arith, length-drop n s)) ∙ sym (getD-drop n t i 0))

@@ -1,11 +1,11 @@
 -- Laws of an AND: its operands, and the gate from their controls. Assumes nothing.
-use Prim.Native.Nat.{ℕ, zero, suc, _+_, _*_, _<_, min, max}
+use Prim.Native.Nat.{ℕ, zero, suc, _+_, _*_, _<_, _≤_, min, max}
 use native.Mathlib.Omega.{arith}
 use native.Mathlib.Nat.{mul-comm}
 use native.Mathlib.Decide.{decLt}
 use mathlib.Core.Path.{_≡_, refl, ap, _∙_}
 use mathlib.Core.Logic.{_≢_}
-use mathlib.Core.Bool.{true, false≢true}
+use mathlib.Core.Bool.{Bool, true, false, false≢true}
 use mathlib.Core.Option.{Option, none, some, Option·none-ne-some, Option·some-injective}
 use mathlib.Core.List.{List, [], _∷_}
 use lib.Dec.{eqb}
@@ -16,6 +16,7 @@ use Rattle.gate.specs.declared.gates.Gate.{Gate}
 use Rattle.gate.specs.declared.gates.Gate.the-variants.{Cnot, Toffoli}
 use Rattle.gate.specs.Gates.{target, Controls, WellFormed, All}
 use Rattle.gate.specs.Running.{addend}
+use Rattle.gate.proofs.AllLaws.{all-reverse}
 use Rattle.gate.proofs.WellFormedLaws.{cnot-formed, toffoli-formed}
 use denote.Enum.Declared.{tagOf}
 use types.Run.{OneOf, miss}
@@ -24,9 +25,9 @@ use Rattle.node.specs.declared.nodes.Node.the-variants.{Zero, One, Input, Not, 
 use Rattle.node.specs.Trees.{treeOf}
 use Rattle.node.proofs.nodes.Node.{the-type}
 use Rattle.node.specs.Exprs.{Expr, ZERO, ONE, INPUT, NOT, XOR, AND, InputsBelow}
-use Rattle.construction.specs.Construction.{inputOf, andGate}
+use Rattle.construction.specs.Construction.{inputOf, andGate, cleaning}
 use Rattle.construction.specs.Steps.{sameInput}
-use Rattle.construction.proofs.Numbers.{controlFrom, operandGates, operandLines}
+use Rattle.construction.proofs.Numbers.{controlFrom, operandGates, operandLines, held, most}
 
 -- a tree that is an input is that INPUT node
 pub is-input : (a : Expr) (j : ℕ) → inputOf a ≡ some j → a ≡ INPUT j
@@ -36,7 +37,7 @@ is-input ONE j e = absurd (Option·none-ne-some j e)
 is-input (INPUT k) j e = ap INPUT (Option·some-injective k j e)
 is-input (NOT a) j e = absurd (Option·none-ne-some j e)
 is-input (XOR a b) j e = absurd (Option·none-ne-some j e)
-is-input (AND a b) j e = absurd (Option·none-ne-some j e)
+is-input (AND m a b) j e = absurd (Option·none-ne-some j e)
 
 -- so it is below n where the tree's inputs are
 pub input-below : (n : ℕ) (a : Expr) → InputsBelow n a → (j : ℕ) → inputOf a ≡ some j → j < n
@@ -50,7 +51,7 @@ no-input ts One h = refl
 no-input ts (Input j) h = absurd (miss (0 ∷ 1 ∷ 3 ∷ 4 ∷ 5 ∷ []) 2 tt h)
 no-input ts (Not a) h = refl
 no-input ts (Xor a b) h = refl
-no-input ts (And a b) h = refl
+no-input ts (And m a b) h = refl
 
 -- an operand's control is its input, or the line that it is built on
 pub control-by : (q : Option ℕ) (f : ℕ) (P : ℕ → Type 0) → ((j : ℕ) → q ≡ some j → P j) → (q ≡ none → P f) → P (controlFrom q f)
@@ -84,6 +85,29 @@ all-made P none gs h = h refl
 pub lines-built : {q : Option ℕ} → q ≡ none → (k : ℕ) → operandLines q k ≡ 1 + k
 unfolding operandLines
 lines-built e k = rw e refl
+
+-- and no fewer where its tree has more
+pub lines-more : (q : Option ℕ) (k l : ℕ) → k ≤ l → operandLines q k ≤ operandLines q l
+unfolding operandLines
+lines-more (some j) k l h = omega arith
+lines-more none k l h = omega arith
+
+-- what is still held is no more than the most held together
+pub held-most : (e : Expr) → held e ≤ most e
+unfolding held most
+held-most ZERO = omega arith
+held-most ONE = omega arith
+held-most (INPUT j) = omega arith
+held-most (NOT a) = held-most a
+held-most (XOR a b) = omega (arith, held-most b)
+held-most (AND true a b) = omega arith
+held-most (AND false a b) = omega (arith, lines-more (inputOf b) (held b) (most b) (held-most b))
+
+-- what holds of the gates that made the operands of an AND holds of those that clean up behind it
+pub all-cleaning : (P : Gate → Type 0) (m : Bool) (gs : List Gate) → All P gs → All P (cleaning m gs)
+unfolding cleaning
+all-cleaning P true gs h = all-reverse P gs h
+all-cleaning P false gs h = tt
 
 -- the gate of an AND, by whether its controls are one line
 pub and-by : (c d t : ℕ) (P : Gate → Type 0) → (c ≡ d → P (Cnot c t)) → (c ≢ d → P (Toffoli (min c d) (max c d) t)) → P (andGate c d t)

@@ -35,7 +35,7 @@ share-formed n e t f L p = rw (share-gates e t f) (share.share-formed-from n e t
 
 pub one-control : OneControl
 unfolding nextFree inUse
-one-control n a b p w h low e =
+one-control n m a b p w h low e =
     let u = reached-first p h in
     let f : ℕ = u .line + u .count in
     let at : lowestFree p ≡ f = ap lowestFree (u .is) ∙ lowest-behind (u .line) (u .count) (u .peak) in

@@ -2,6 +2,8 @@
 use Prim.Native.Nat.{ℕ, _+_, _*_, _<_, _≤_}
 use native.Mathlib.Omega.{arith}
 use mathlib.Core.Path.{_≡_, refl, sym, ap, ap₂, _∙_}
+use mathlib.Core.Logic.{_≢_}
+use mathlib.Core.Bool.{Bool}
 use mathlib.Core.Option.{Option, none, some}
 use mathlib.Core.List.{List, [], _∷_}
 use lib.ListN.{length, take}
@@ -10,17 +12,17 @@ use Rattle.wire.specs.Bits.{xorBit, bit, Bits}
 use Rattle.wire.proofs.BitLaws.{xor-end, xor-start, xor-assoc, bit-below, bits-take}
 use Rattle.gate.specs.declared.gates.Gate.{Gate}
 use Rattle.gate.specs.declared.gates.Gate.the-variants.{Not, Cnot}
-use Rattle.gate.specs.Gates.{target, WellFormed, All}
+use Rattle.gate.specs.Gates.{target, All}
 use Rattle.gate.specs.Running.{addend, step, run}
-use Rattle.gate.proofs.StepLaws.{length-run, step-target, step-other, step-bits, run-append, run-bits}
+use Rattle.gate.proofs.StepLaws.{length-run, step-target, step-other, step-bits, run-append, run-bits, run-other}
 use Rattle.node.specs.Exprs.{Expr, ZERO, ONE, INPUT, NOT, XOR, AND, value, InputsBelow}
 use Rattle.node.proofs.ValueLaws.{value-bit}
-use Rattle.construction.specs.Construction.{inputOf, andGate}
+use Rattle.construction.specs.Construction.{inputOf, andGate, cleaning}
 use Rattle.construction.specs.Theorems.{Zeros, Computes}
 use Rattle.construction.proofs.AfterLaws.{same-front}
 use Rattle.construction.proofs.Numbers.{controlFrom, operandGates, operandLines, held, most, nextFree, buildFrom, ApartFrom}
-use Rattle.construction.proofs.AndLaws.{is-input, input-below, control-by, all-made, lines-built, and-target, and-addend}
-use Rattle.construction.proofs.LineLaws.{most-not, most-xor-first, most-xor-second, most-and-first, most-and-second, apart-not, apart-xor-first, apart-xor-second, apart-and-first, apart-and-second, next-behind, operandsFrom, build-formed, build-leaves-from, build-frees}
+use Rattle.construction.proofs.AndLaws.{is-input, input-below, control-by, all-cleaning, lines-built, and-target, and-addend}
+use Rattle.construction.proofs.LineLaws.{most-not, most-xor-first, most-xor-second, most-and-first, most-and-second, apart-not, apart-xor-first, apart-xor-second, apart-and-first, apart-and-second, next-behind, operandsFrom, build-formed, build-leaves-from, first-formed, operands-miss, made-leaves, build-frees}
 
 -- where a run leaves the first n lines, they are read as before
 pub inputs-run : (n : ℕ) (gs : List Gate) (s : List ℕ) → ((i : ℕ) → i < n → bit (run gs s) i ≡ bit s i) → take n (run gs s) ≡ take n s
@@ -47,18 +49,16 @@ module _ {n : ℕ} {e : Expr} {t f : ℕ} (s : List ℕ) (p : ApartFrom n e t f 
       ∙ ap (λ (v : ℕ). xorBit v (value e (take n s))) z
       ∙ xor-start (value e (take n s)) (value-bit e (take n s) (bits-take n s b))
 
--- the gates that make an operand leave what those that build it leave
-made-leaves : (q : Option ℕ) (gs : List Gate) (s : List ℕ) (i : ℕ) → (q ≡ none → bit (run gs s) i ≡ bit s i) → bit (run (operandGates q gs) s) i ≡ bit s i
-unfolding operandGates run
-made-leaves (some j) gs s i h = refl
-made-leaves none gs s i h = h refl
-
 -- an operand's control holds its value, once the gates that make it have run
 made-value : (n : ℕ) (a : Expr) (q : Option ℕ) (f : ℕ) (gs : List Gate) (s : List ℕ) → inputOf a ≡ q → InputsBelow n a
     → (q ≡ none → bit (run gs s) f ≡ value a (take n s)) → bit (run (operandGates q gs) s) (controlFrom q f) ≡ value a (take n s)
 unfolding operandGates controlFrom run value
 made-value n a (some j) f gs s e w h = sym (getD-take n s j 0 (input-below n a w j e)) ∙ ap (λ (b : Expr). value b (take n s)) (sym (is-input a j e))
 made-value n a none f gs s e w h = h refl
+
+-- a line that is no target of an AND's operands is left by what cleans up behind it too
+cleaning-leaves : (m : Bool) (gs : List Gate) (s : List ℕ) (i : ℕ) → All (λ g. i ≢ target g) gs → bit (run (cleaning m gs) s) i ≡ bit s i
+cleaning-leaves m gs s i h = run-other (cleaning m gs) s i (all-cleaning _ m gs h)
 
 -- building computes the tree: 001, Theorem 1
 pub build-computes-from : (n : ℕ) (e : Expr) (t f : ℕ) (s : List ℕ) → ApartFrom n e t f (length s) → Bits s → Zeros f (most e) s → Computes (buildFrom e t f) n e t s
@@ -90,7 +90,7 @@ build-computes-from n (XOR a b) t f s p bs zs =
     ∙ build-computes-from n b t (f + held a) s₁ pb (bits-kept s pa bs) zb
     ∙ ap₂ (λ (v : ℕ) (x : List ℕ). xorBit v (value b x)) at (inputs-kept s pa bs)
     ∙ xor-assoc (bit s t) (value a (take n s)) (value b (take n s))
-build-computes-from n (AND a b) t f s p bs zs =
+build-computes-from n (AND m a b) t f s p bs zs =
     let g : ℕ = nextFree f a in
     let A : List Gate = operandGates (inputOf a) (buildFrom a f (f + 1)) in
     let B : List Gate = operandGates (inputOf b) (buildFrom b g (g + 1)) in
@@ -100,11 +100,10 @@ build-computes-from n (AND a b) t f s p bs zs =
     let s₁ : List ℕ = run A s in
     let s₂ : List ℕ = run B s₁ in
     let l₁ : length s₁ ≡ length s = length-run A s in
-    let formed : All (WellFormed (length s)) A = all-made _ (inputOf a) _ (λ e. build-formed n a f (f + 1) (length s) (apart-and-first p e)) in
-    let b₁ : Bits s₁ = run-bits A s formed bs in
+    let b₁ : Bits s₁ = run-bits A s (first-formed n m a b t f (length s) p) bs in
     let behind : f ≤ g = next-behind f a in
-    let ma : operandLines (inputOf a) (most a) ≤ most (AND a b) = most-and-first a b in
-    let mb : operandLines (inputOf a) (held a) + operandLines (inputOf b) (most b) ≤ most (AND a b) = most-and-second a b in
+    let ma : operandLines (inputOf a) (most a) ≤ most (AND m a b) = most-and-first a b m in
+    let mb : operandLines (inputOf a) (held a) + operandLines (inputOf b) (most b) ≤ most (AND m a b) = most-and-second a b m in
     let same₁ : (i : ℕ) → (f ≤ i → g ≤ i) → bit s₁ i ≡ bit s i =
     λ i h. made-leaves (inputOf a) (buildFrom a f (f + 1)) s i (λ e.
     let l : operandLines (inputOf a) (held a) ≡ 1 + held a = lines-built e (held a) in
@@ -133,6 +132,8 @@ build-computes-from n (AND a b) t f s p bs zs =
     let e : target G ≡ t = and-target c d t in
     let hit : bit (step G s₂) t ≡ xorBit (bit s₂ t) (addend G s₂) =
     rw e at (step-target G s₂ (rw e (omega (arith, length-run B s₁)))) in
-    ap (λ (r : List ℕ). bit r t) (run-append (operandsFrom a b f) (G ∷ []) s ∙ ap (step G) (run-append A B s))
+    let C : List Gate = cleaning m (operandsFrom a b f) in
+    ap (λ (r : List ℕ). bit r t) (run-append (operandsFrom a b f) (G ∷ C) s ∙ ap (λ (r : List ℕ). run C (step G r)) (run-append A B s))
+    ∙ cleaning-leaves m (operandsFrom a b f) (step G s₂) t (operands-miss a b f t (p .free))
     ∙ hit
     ∙ ap₂ xorBit left (and-addend c d t s₂ small ∙ ap₂ _*_ kept (last ∙ ap (value b) inputs))

@@ -1,29 +1,31 @@
 -- Laws of counting: the counts are the lengths of what the construction writes, and the sizes bound them. Assumes nothing.
-use Prim.Native.Nat.{ℕ, _+_, _*_, _<_, _≤_}
+use Prim.Native.Nat.{ℕ, _+_, _<_, _≤_}
 use native.Mathlib.Omega.{arith}
-use native.Mathlib.Nat.{add-zero}
+use native.Mathlib.Nat.{zero-add}
 use mathlib.Core.Path.{_≡_, refl, sym, ap, ap₂, _∙_}
-use mathlib.Core.Logic.{_⊎_, inl, inr, ⊎-elim}
+use mathlib.Core.Logic.{_≢_, _⊎_, inl, inr, ⊎-elim}
+use mathlib.Core.Bool.{Bool, true, false}
 use mathlib.Core.Option.{Option, none, some}
 use mathlib.Core.List.{List, [], _∷_}
 use lib.ListN.{length, length-append}
 use lib.Dec.{eqb}
 use borrow.Author.Tests.{eq-eqb}
 use Rattle.wire.specs.Limits.{mostGates}
+use Rattle.wire.specs.Shown.{shown}
 use Rattle.refusal.proofs.CheckLaws.{by-test}
 use Rattle.gate.specs.declared.gates.Gate.{Gate}
-use Rattle.gate.specs.Gates.{target, toffoliCount}
+use Rattle.gate.specs.Gates.{target, toffoliCount, All}
 use Rattle.gate.specs.Running.{without, uncompute}
-use Rattle.gate.proofs.ToffoliLaws.{counted, counted-length, counted-toffolis, counted-append, counted-uncompute, counted-without}
+use Rattle.gate.proofs.ToffoliLaws.{counted, counted-length, counted-toffolis, counted-append, counted-reverse, counted-uncompute, counted-without}
 use Rattle.gate.proofs.UncomputeLaws.{without-none, one-out}
 use Rattle.node.specs.Exprs.{Expr, ZERO, ONE, INPUT, NOT, XOR, AND, size, InputsBelow}
-use Rattle.construction.specs.Construction.{inputOf, andGate, circuitGates}
+use Rattle.construction.specs.Construction.{inputOf, andGate, cleaning, circuitGates}
 use Rattle.construction.specs.Counting.{gatesShown}
-use Rattle.construction.specs.Steps.{operandCount, sameInput, andCount, builtCount, undoneCount, shareCount, sharesCount}
+use Rattle.construction.specs.Steps.{operandCount, sameInput, andCount, cleaningCount, builtCount, undoneCount, shareCount, sharesCount}
 use Rattle.construction.proofs.Numbers.{controlFrom, operandGates, operandLines, held, most, nextFree, buildFrom, shareFrom, sharesFrom}
 use Rattle.construction.proofs.PoolLaws.{circuit-is}
-use Rattle.construction.proofs.AndLaws.{input-below, same-control, lines-built, and-by, and-target}
-use Rattle.construction.proofs.LineLaws.{most-held, next-behind, operandsFrom, all-operands, build-misses}
+use Rattle.construction.proofs.AndLaws.{input-below, same-control, lines-built, lines-more, held-most, all-cleaning, and-by, and-target}
+use Rattle.construction.proofs.LineLaws.{next-behind, operandsFrom, operands-miss}
 
 -- the gates that make an operand count what those that build it do, or nothing
 made-counted : (c : ℕ) (q : Option ℕ) (gs : List Gate) (k : ℕ) → (q ≡ none → counted c gs ≡ k) → counted c (operandGates q gs) ≡ operandCount q k
@@ -65,10 +67,16 @@ Told c n e f = (c ≡ 1) ⊎ (InputsBelow n e × (n ≤ f))
 told-part : {c : ℕ} {P Q : Type 0} → (P → Q) → (c ≡ 1) ⊎ P → (c ≡ 1) ⊎ Q
 told-part h d = ⊎-elim (λ e. inl e) (λ w. inr (h w)) d
 
-and-counted : (c n : ℕ) (a b : Expr) (t f : ℕ) → Told c n (AND a b) f
+-- what cleans up behind an AND counts what made its operands did, or nothing
+cleaning-counted : (c : ℕ) (m : Bool) (gs : List Gate) (k : ℕ) → counted c gs ≡ k → counted c (cleaning m gs) ≡ cleaningCount m k
+unfolding cleaning cleaningCount counted
+cleaning-counted c true gs k h = counted-reverse c gs ∙ h
+cleaning-counted c false gs k h = refl
+
+and-counted : (c n : ℕ) (m : Bool) (a b : Expr) (t f : ℕ) → Told c n (AND m a b) f
     → counted c (andGate (controlFrom (inputOf a) f) (controlFrom (inputOf b) (nextFree f a)) t ∷ []) ≡ andCount c (inputOf a) (inputOf b)
 unfolding nextFree
-and-counted c n a b t f d =
+and-counted c n m a b t f d =
     let x : ℕ = controlFrom (inputOf a) f in
     let y : ℕ = controlFrom (inputOf b) (nextFree f a) in
     ⊎-elim
@@ -95,15 +103,17 @@ module _ (c n : ℕ) where
         build-counted a t f (told-part (λ w. (w .0 .0, omega (arith, w .1))) d),
         build-counted b t (f + held a) (told-part (λ w. (w .0 .1, omega (arith, w .1))) d),
       )
-  build-counted (AND a b) t f d =
+  build-counted (AND m a b) t f d =
       let g : ℕ = nextFree f a in
-      let G : List Gate = andGate (controlFrom (inputOf a) f) (controlFrom (inputOf b) g) t ∷ [] in
-      counted-append c (operandsFrom a b f) G
-      ∙ ap₂ _+_
-      (operands-counted c a b f
+      let gs : List Gate = operandsFrom a b f in
+      let G : Gate = andGate (controlFrom (inputOf a) f) (controlFrom (inputOf b) g) t in
+      let made : ℕ = operandCount (inputOf a) (builtCount c a) + operandCount (inputOf b) (builtCount c b) in
+      let all : counted c gs ≡ made =
+      operands-counted c a b f
       (λ e. build-counted a f (f + 1) (told-part (λ w. (w .0 .0, omega (arith, w .1))) d))
-      (λ e. build-counted b g (g + 1) (told-part (λ w. (w .0 .1, omega (arith, w .1, next-behind f a))) d)))
-      (and-counted c n a b t f d)
+      (λ e. build-counted b g (g + 1) (told-part (λ w. (w .0 .1, omega (arith, w .1, next-behind f a))) d)) in
+      counted-append c gs (G ∷ cleaning m gs)
+      ∙ ap₂ _+_ all (counted-append c (G ∷ []) (cleaning m gs) ∙ ap₂ _+_ (and-counted c n m a b t f d) (cleaning-counted c m gs made all))
 
   -- and those of them whose target is not the tree's own line are what a share undoes
   undone-counted : (e : Expr) (t f : ℕ) → Told c n e f → t < f → counted c (without (eqb t) (buildFrom e t f)) ≡ undoneCount c e
@@ -119,23 +129,24 @@ module _ (c n : ℕ) where
         undone-counted a t f (told-part (λ w. (w .0 .0, omega (arith, w .1))) d) h,
         undone-counted b t (f + held a) (told-part (λ w. (w .0 .1, omega (arith, w .1))) d) (omega arith),
       )
-  undone-counted (AND a b) t f d h =
+  undone-counted (AND m a b) t f d h =
       let g : ℕ = nextFree f a in
-      let behind : f ≤ g = next-behind f a in
       let gs : List Gate = operandsFrom a b f in
       let G : Gate = andGate (controlFrom (inputOf a) f) (controlFrom (inputOf b) g) t in
-      let own : without (eqb t) (G ∷ []) ≡ [] = one-out (eqb t) G (eq-eqb t (target G) (sym (and-target _ _ t))) in
-      let others : without (eqb t) gs ≡ gs =
-      without-none t gs
-      (all-operands _ a b f
-      (λ e. build-misses a f (f + 1) t (omega arith) (λ p. omega arith))
-      (λ e. build-misses b g (g + 1) t (omega arith) (λ p. omega arith))) in
-      counted-without c (eqb t) gs (G ∷ [])
-      ∙ ap₂ _+_ (ap (counted c) others) (ap (counted c) own)
-      ∙ add-zero (counted c gs)
-      ∙ operands-counted c a b f
+      let made : ℕ = operandCount (inputOf a) (builtCount c a) + operandCount (inputOf b) (builtCount c b) in
+      let all : counted c gs ≡ made =
+      operands-counted c a b f
       (λ e. build-counted a f (f + 1) (told-part (λ w. (w .0 .0, omega (arith, w .1))) d))
-      (λ e. build-counted b g (g + 1) (told-part (λ w. (w .0 .1, omega (arith, w .1))) d))
+      (λ e. build-counted b g (g + 1) (told-part (λ w. (w .0 .1, omega (arith, w .1, next-behind f a))) d)) in
+      let own : without (eqb t) (G ∷ []) ≡ [] = one-out (eqb t) G (eq-eqb t (target G) (sym (and-target _ _ t))) in
+      let missed : All (λ x. t ≢ target x) gs = operands-miss a b f t h in
+      let others : without (eqb t) gs ≡ gs = without-none t gs missed in
+      let last : without (eqb t) (cleaning m gs) ≡ cleaning m gs = without-none t (cleaning m gs) (all-cleaning _ m gs missed) in
+      counted-without c (eqb t) gs (G ∷ cleaning m gs)
+      ∙ ap₂ _+_ (ap (counted c) others ∙ all)
+      (counted-without c (eqb t) (G ∷ []) (cleaning m gs)
+      ∙ ap₂ _+_ (ap (counted c) own) (ap (counted c) last ∙ cleaning-counted c m gs made all)
+      ∙ zero-add (cleaningCount m made))
 
   share-counted : (e : Expr) (t f : ℕ) → Told c n e f → t < f → counted c (shareFrom e t f) ≡ shareCount c e
   unfolding shareFrom shareCount
@@ -178,19 +189,21 @@ unfolding operandLines
 lines-few (some j) k l h = omega arith
 lines-few none k l h = omega arith
 
--- a tree holds fewer lines than its size
-held-below-size : (e : Expr) → held e + 1 ≤ size e
-unfolding held size
-held-below-size ZERO = omega arith
-held-below-size ONE = omega arith
-held-below-size (INPUT j) = omega arith
-held-below-size (NOT a) = omega (arith, held-below-size a)
-held-below-size (XOR a b) = omega (arith, held-below-size a, held-below-size b)
-held-below-size (AND a b) = omega (arith, lines-few (inputOf a) (held a) (size a) (held-below-size a), lines-few (inputOf b) (held b) (size b) (held-below-size b))
-
--- and takes fewer
+-- the lines that a tree takes are fewer than its size
 pub lines-below-size : (e : Expr) → most e + 1 ≤ size e
-lines-below-size e = omega (arith, most-held e, held-below-size e)
+unfolding most size
+lines-below-size ZERO = omega arith
+lines-below-size ONE = omega arith
+lines-below-size (INPUT j) = omega arith
+lines-below-size (NOT a) = omega (arith, lines-below-size a)
+lines-below-size (XOR a b) = omega (arith, lines-below-size a, lines-below-size b, held-most a)
+lines-below-size (AND m a b) =
+    omega (
+      arith,
+      lines-few (inputOf a) (most a) (size a) (lines-below-size a),
+      lines-few (inputOf b) (most b) (size b) (lines-below-size b),
+      lines-more (inputOf a) (held a) (most a) (held-most a),
+    )
 
 -- an operand of AND is made by no more gates than build it
 pub operand-few : (q : Option ℕ) (k : ℕ) → operandCount q k ≤ k
@@ -198,45 +211,11 @@ unfolding operandCount
 operand-few (some j) k = omega arith
 operand-few none k = omega arith
 
--- a tree is built by no more gates than its size
-pub gates-within-size : (e : Expr) → builtCount 1 e ≤ size e
-unfolding builtCount size
-gates-within-size ZERO = omega arith
-gates-within-size ONE = omega arith
-gates-within-size (INPUT j) = omega arith
-gates-within-size (NOT a) = omega (arith, gates-within-size a)
-gates-within-size (XOR a b) = omega (arith, gates-within-size a, gates-within-size b)
-gates-within-size (AND a b) =
-    omega (
-      arith,
-      gates-within-size a,
-      gates-within-size b,
-      operand-few (inputOf a) (builtCount 1 a),
-      operand-few (inputOf b) (builtCount 1 b),
-      and-one (inputOf a) (inputOf b),
-    )
-
--- and fewer of them are undone
-pub undone-below-size : (e : Expr) → undoneCount 1 e + 1 ≤ size e
-unfolding undoneCount size
-undone-below-size ZERO = omega arith
-undone-below-size ONE = omega arith
-undone-below-size (INPUT j) = omega arith
-undone-below-size (NOT a) = omega (arith, undone-below-size a)
-undone-below-size (XOR a b) = omega (arith, undone-below-size a, undone-below-size b)
-undone-below-size (AND a b) =
-    omega (arith, gates-within-size a, gates-within-size b, operand-few (inputOf a) (builtCount 1 a), operand-few (inputOf b) (builtCount 1 b))
-
--- a share has fewer gates than twice the size
-pub share-within-size : (e : Expr) → shareCount 1 e + 1 ≤ 2 * size e
-unfolding shareCount
-share-within-size e = omega (arith, gates-within-size e, undone-below-size e)
-
 -- what counting shows is exact up to 8,000 gates, and more where there are more
 pub shown-within : (k : ℕ) → gatesShown k ≤ mostGates → gatesShown k ≡ k
-unfolding gatesShown
-shown-within k h = refl
+unfolding gatesShown shown
+shown-within k h = omega (arith, h)
 
 pub shown-over : (k : ℕ) → mostGates < gatesShown k → mostGates < k
-unfolding gatesShown
-shown-over k h = h
+unfolding gatesShown shown
+shown-over k h = omega (arith, h)

@@ -1,8 +1,10 @@
 pub mod AfterLaws
 pub mod AndCases
+pub mod AndCleanCases
 pub mod AndLaws
 pub mod BuildLaws
 pub mod ComputeLaws
+pub mod CountCases
 pub mod CountLaws
 pub mod LineLaws
 pub mod Numbers

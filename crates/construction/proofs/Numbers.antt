@@ -1,5 +1,6 @@
 -- The construction by numbers, a shortcut: where the lines in use are the first ones, the lowest free line is a number and the pool is not needed.
 use Prim.Native.Nat.{ℕ, _+_, _≤_, _<_, max}
+use mathlib.Core.Bool.{cond}
 use mathlib.Core.Option.{Option, none, some}
 use mathlib.Core.List.{List, [], _∷_, _++_}
 use lib.Dec.{eqb}
@@ -7,7 +8,7 @@ use Rattle.gate.specs.declared.gates.Gate.{Gate}
 use Rattle.gate.specs.declared.gates.Gate.the-variants.{Not, Cnot}
 use Rattle.gate.specs.Running.{uncompute}
 use Rattle.node.specs.Exprs.{Expr, ZERO, ONE, INPUT, NOT, XOR, AND, InputsBelow}
-use Rattle.construction.specs.Construction.{inputOf, andGate}
+use Rattle.construction.specs.Construction.{inputOf, andGate, cleaning}
 
 -- an operand's control, where f is the lowest free line
 unfoldable pub controlFrom : Option ℕ → ℕ → ℕ
@@ -31,11 +32,16 @@ held ONE = 0
 held (INPUT j) = 0
 held (NOT a) = held a
 held (XOR a b) = held a + held b
-held (AND a b) = operandLines (inputOf a) (held a) + operandLines (inputOf b) (held b)
+held (AND m a b) = cond m 0 (operandLines (inputOf a) (held a) + operandLines (inputOf b) (held b))
 
 -- the most work lines that building a tree holds together
 unfoldable pub most : Expr → ℕ
-most e = held e
+most ZERO = 0
+most ONE = 0
+most (INPUT j) = 0
+most (NOT a) = most a
+most (XOR a b) = max (most a) (held a + most b)
+most (AND m a b) = max (operandLines (inputOf a) (most a)) (operandLines (inputOf a) (held a) + operandLines (inputOf b) (most b))
 
 -- the lowest free line after an AND's first operand, where it was f before it
 unfoldable pub nextFree : ℕ → Expr → ℕ
@@ -48,10 +54,10 @@ buildFrom ONE t f = Not t ∷ []
 buildFrom (INPUT j) t f = Cnot j t ∷ []
 buildFrom (NOT a) t f = Not t ∷ buildFrom a t f
 buildFrom (XOR a b) t f = buildFrom a t f ++ buildFrom b t (f + held a)
-buildFrom (AND a b) t f =
+buildFrom (AND m a b) t f =
     let g = nextFree f a in
-    (operandGates (inputOf a) (buildFrom a f (f + 1)) ++ operandGates (inputOf b) (buildFrom b g (g + 1)))
-    ++ (andGate (controlFrom (inputOf a) f) (controlFrom (inputOf b) g) t ∷ [])
+    let made = operandGates (inputOf a) (buildFrom a f (f + 1)) ++ operandGates (inputOf b) (buildFrom b g (g + 1)) in
+    made ++ (andGate (controlFrom (inputOf a) f) (controlFrom (inputOf b) g) t ∷ cleaning m made)
 
 -- the gates of a share, and of several
 unfoldable pub shareFrom : Expr → ℕ → ℕ → List Gate

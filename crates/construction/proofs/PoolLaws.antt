@@ -14,10 +14,11 @@ use Rattle.refusal.specs.Checks.{lowestFrom}
 use Rattle.refusal.proofs.CheckLaws.{by-test, lowest-before, lowest-none}
 use Rattle.gate.specs.declared.gates.Gate.{Gate}
 use Rattle.node.specs.Exprs.{Expr, ZERO, ONE, INPUT, NOT, XOR, AND}
-use Rattle.construction.specs.Pools.{Pool, isAmong, allFree, lowestFree, takeLine, freeAll}
+use Rattle.construction.specs.Pools.{Pool, isAmong, allFree, lowestFree, takeLine, release}
 use Rattle.construction.specs.Theorems.{LowestFree, treeGates, treeLines, firstBuilt, firstShares, shareOf}
-use Rattle.construction.specs.Construction.{Built, MadeOperand, inputOf, operand, build, share, shares, allShares, circuitGates, linesNeeded}
-use Rattle.construction.specs.Steps.{Reached, fresh, taken, built, released}
+use Rattle.construction.specs.Construction.{Built, MadeOperand, inputOf, operand, cleaned, build, share, shares, allShares, circuitGates, linesNeeded}
+use Rattle.construction.specs.Steps.{Reached, fresh, taken, built, released, treeHeld}
+use Rattle.construction.proofs.AndLaws.{lines-more, held-most}
 use Rattle.construction.proofs.Numbers.{controlFrom, operandGates, operandLines, held, most, nextFree, buildFrom, shareFrom, sharesFrom, mostOf}
 
 -- the k lines from f on, highest first
@@ -34,7 +35,7 @@ unfolding linesFrom
 lines-length f zero = refl
 lines-length f (suc k) = ap suc (lines-length f k)
 
-lines-among : (f k j : ℕ) → j < k → isAmong (linesFrom f k) (f + j) ≡ true
+pub lines-among : (f k j : ℕ) → j < k → isAmong (linesFrom f k) (f + j) ≡ true
 unfolding linesFrom isAmong
 lines-among f zero j h = absurd (omega arith)
 lines-among f (suc k) j h = by-test (eqb (f + j) (f + k)) (λ e. rw e refl) (λ e. rw e (lines-among f k j (omega (arith, eqb-false (f + j) (f + k) e))))
@@ -45,7 +46,7 @@ unfolding lowestFree inUse
 lowest-behind f k m = rw (lines-length f k) (lowest-none (isAmong (linesFrom f k)) f k (lines-among f k))
 
 -- and when it is taken, one line more is in use
-take-behind : (f k m : ℕ) → takeLine (inUse f k m) ≡ inUse f (k + 1) (max m (k + 1))
+pub take-behind : (f k m : ℕ) → takeLine (inUse f k m) ≡ inUse f (k + 1) (max m (k + 1))
 unfolding takeLine inUse linesFrom
 take-behind f k m =
     let next : k + 1 ≡ suc k = omega arith in
@@ -75,6 +76,12 @@ made-is none a is f k m h =
     rw (lowest-behind f k m, take-behind f k m, is (f + k) f (k + 1) (max m (k + 1)) (omega arith))
     (operand-same f refl (ap (buildFrom a (f + k)) one) (omega arith) (omega arith))
 
+-- after a marked AND just the lines in use before it are in use
+cleaned-is : (c : Bool) (f k m j n l : ℕ) → j ≡ k + l → cleaned c (inUse f k m) (inUse f j n) ≡ inUse f (k + cond c 0 l) n
+unfolding cleaned release inUse
+cleaned-is true f k m j n l e = ap (λ (i : ℕ). inUse f i n) (sym (add-zero k))
+cleaned-is false f k m j n l e = ap (λ (i : ℕ). inUse f i n) e
+
 pub build-is : (e : Expr) → ByNumbers e
 unfolding build buildFrom held most nextFree
 build-is ZERO t f k m h = built-same f refl (omega arith) (omega arith)
@@ -83,14 +90,16 @@ build-is (INPUT j) t f k m h = built-same f refl (omega arith) (omega arith)
 build-is (NOT a) t f k m h = rw (build-is a t f k m h) (built-same f refl refl refl)
 build-is (XOR a b) t f k m h =
     let at : f + (k + held a) ≡ f + k + held a = omega arith in
-    rw (build-is a t f k m h, build-is b t f (k + held a) (max m (k + most a)) (omega arith))
+    rw (build-is a t f k m h, build-is b t f (k + held a) (max m (k + most a)) (omega (arith, held-most a)))
     (built-same f (ap (λ (g : ℕ). buildFrom a t (f + k) ++ buildFrom b t g) at) (omega arith) (omega arith))
-build-is (AND a b) t f k m h =
+build-is (AND c a b) t f k m h =
+    let more : operandLines (inputOf a) (held a) ≤ operandLines (inputOf a) (most a) = lines-more (inputOf a) (held a) (most a) (held-most a) in
     let k₁ : ℕ = k + operandLines (inputOf a) (held a) in
     let m₁ : ℕ = max m (k + operandLines (inputOf a) (most a)) in
     let two : f + k₁ ≡ nextFree (f + k) a = omega arith in
     rw (made-is (inputOf a) a (build-is a) f k m h, made-is (inputOf b) b (build-is b) f k₁ m₁ (omega arith))
-    (rw two (built-same f refl (omega arith) (omega arith)))
+    (rw (cleaned-is c f k m (k₁ + operandLines (inputOf b) (held b)) (max m₁ (k₁ + operandLines (inputOf b) (most b))) (operandLines (inputOf a) (held a) + operandLines (inputOf b) (held b)) (omega arith), two)
+    (built-same f refl refl (omega arith)))
 
 -- the same where no line was taken yet
 all-free : (f : ℕ) → allFree f ≡ inUse f 0 0
@@ -101,13 +110,13 @@ pub tree-is : (e : Expr) (t f : ℕ) → build e t (allFree f) ≡ record { gate
 tree-is e t f = rw (all-free f, build-is e t f 0 0 (omega arith)) (rw add-zero (built-same f refl (omega arith) (omega arith)))
 
 -- a share by numbers, where all work lines from line f on are free: so they are again after it
-free-all : (f k m : ℕ) → freeAll (inUse f k m) ≡ inUse f 0 m
-unfolding freeAll inUse linesFrom
-free-all f k m = refl
+release-all : (f k m : ℕ) → release [] (inUse f k m) ≡ inUse f 0 m
+unfolding release inUse linesFrom
+release-all f k m = refl
 
 pub share-is : (e : Expr) (t f m : ℕ) → share e t (inUse f 0 m) ≡ record { gates = shareFrom e t f; pool = inUse f 0 (max m (most e)) }
 unfolding share shareFrom
-share-is e t f m = rw (build-is e t f 0 m (omega arith), free-all, add-zero f) (built-same f refl refl (omega arith))
+share-is e t f m = rw (build-is e t f 0 m (omega arith), release-all, add-zero f) (built-same f refl refl (omega arith))
 
 -- several shares by numbers
 pub shares-are : (es : List Expr) (t f m : ℕ) → shares es t (inUse f 0 m) ≡ record { gates = sharesFrom es t f; pool = inUse f 0 (max m (mostOf es)) }
@@ -123,6 +132,10 @@ module _ (e : Expr) (t f : ℕ) where
   pub tree-lines : treeLines e t f ≡ most e
   unfolding inUse
   tree-lines = ap (λ (b : Built). b .pool .most) (tree-is e t f)
+
+  pub tree-held : treeHeld e t f ≡ held e
+  unfolding inUse
+  tree-held = ap (λ (b : Built). length (b .pool .used)) (tree-is e t f) ∙ lines-length f (held e)
 
   pub share-lines : share e t (allFree f) .pool .most ≡ most e
   unfolding inUse
@@ -143,7 +156,7 @@ module _ (n : ℕ) (es : List Expr) where
 
 -- the shares of the first j outputs, the next one and those after them
 module _ (n : ℕ) (es : List Expr) (j : ℕ) where
-  first-built : firstBuilt n es j ≡ record { gates = sharesFrom (take j es) n (n + length es); pool = inUse (n + length es) 0 (mostOf (take j es)) }
+  pub first-built : firstBuilt n es j ≡ record { gates = sharesFrom (take j es) n (n + length es); pool = inUse (n + length es) 0 (mostOf (take j es)) }
   unfolding firstBuilt
   first-built = ap (shares (take j es) n) (all-free (n + length es)) ∙ shares-are (take j es) n (n + length es) 0 ∙ built-same (n + length es) refl refl (omega arith)
 
@@ -168,7 +181,6 @@ pub record FirstUsed (p : Pool) : Type 0 where
 
 -- so they are in every pool that the construction reaches
 pub reached-first : (p : Pool) → Reached p → FirstUsed p
-unfolding most
 reached-first _ (fresh f) = record { line = f; count = 0; peak = 0; few = omega arith; is = all-free f }
 reached-first _ (taken p h) =
     let u = reached-first p h in
@@ -179,12 +191,12 @@ reached-first _ (built e t p h) =
       line = u .line;
       count = u .count + held e;
       peak = max (u .peak) (u .count + most e);
-      few = omega arith;
+      few = omega (arith, held-most e);
       is = ap (λ (q : Pool). build e t q .pool) (u .is) ∙ ap (λ (b : Built). b .pool) (build-is e t (u .line) (u .count) (u .peak) (u .few));
     }
 reached-first _ (released p h) =
     let u = reached-first p h in
-    record { line = u .line; count = 0; peak = u .peak; few = omega arith; is = ap (freeAll) (u .is) ∙ free-all (u .line) (u .count) (u .peak) }
+    record { line = u .line; count = 0; peak = u .peak; few = omega arith; is = ap (release []) (u .is) ∙ release-all (u .line) (u .count) (u .peak) }
 
 -- a tree by numbers in such a pool, f being its lowest free line
 module _ (e : Expr) (t : ℕ) {p : Pool} {f : ℕ} (h : Reached p) (low : lowestFree p ≡ f) where

@@ -1,15 +1,15 @@
 -- The construction (001, 4.1): the gates of a tree, of an output's share, and of a whole circuit.
 use Prim.Native.Nat.{ℕ, _+_, min, max}
-use mathlib.Core.Bool.{cond}
+use mathlib.Core.Bool.{Bool, cond}
 use mathlib.Core.Option.{Option, none, some}
-use mathlib.Core.List.{List, [], _∷_, _++_}
+use mathlib.Core.List.{List, [], _∷_, _++_, reverse}
 use lib.ListN.{length}
 use lib.Dec.{eqb}
 use Rattle.gate.specs.declared.gates.Gate.{Gate}
 use Rattle.gate.specs.declared.gates.Gate.the-variants.{Not, Cnot, Toffoli}
 use Rattle.gate.specs.Running.{uncompute}
 use Rattle.node.specs.Exprs.{Expr, ZERO, ONE, INPUT, NOT, XOR, AND}
-use Rattle.construction.specs.Pools.{Pool, allFree, lowestFree, takeLine, freeAll}
+use Rattle.construction.specs.Pools.{Pool, allFree, lowestFree, takeLine, release}
 
 -- gates that were built, and the pool of work lines after them
 pub record Built : Type 0 where
@@ -23,7 +23,7 @@ inputOf ONE = none
 inputOf (INPUT j) = some j
 inputOf (NOT a) = none
 inputOf (XOR a b) = none
-inputOf (AND a b) = none
+inputOf (AND m a b) = none
 
 -- an operand of AND when it is made: the line that is its control, the gates that make it, and the pool of work lines after them
 pub record MadeOperand : Type 0 where
@@ -42,7 +42,15 @@ operand none into p =
 unfoldable pub andGate : ℕ → ℕ → ℕ → Gate
 andGate c d t = cond (eqb c d) (Cnot c t) (Toffoli (min c d) (max c d) t)
 
--- XORing a tree into line t (001, COMPILE-BEXP); NOT is 1 XOR its operand. An AND makes its first operand, then its second, then writes one gate from their controls to t
+-- what follows the gate of an AND whose operands were made by these gates (02, A7): where it is marked they are undone, last to first; else nothing
+unfoldable pub cleaning : Bool → List Gate → List Gate
+cleaning m gs = cond m (reverse gs) []
+
+-- and the pool after it, where p was the pool before it and q is the one with its operands made: where it is marked, just the lines in use before it are in use again
+unfoldable pub cleaned : Bool → Pool → Pool → Pool
+cleaned m p q = cond m (release (p .used) q) q
+
+-- XORing a tree into line t (001, COMPILE-BEXP); NOT is 1 XOR its operand. An AND makes its first operand, then its second, then writes one gate from their controls to t, and where it is marked cleans up behind it
 unfoldable pub build : Expr → ℕ → Pool → Built
 build ZERO t p = record { gates = []; pool = p }
 build ONE t p = record { gates = Not t ∷ []; pool = p }
@@ -54,16 +62,17 @@ build (XOR a b) t p =
     let x = build a t p in
     let y = build b t (x .pool) in
     record { gates = x .gates ++ y .gates; pool = y .pool }
-build (AND a b) t p =
+build (AND m a b) t p =
     let x = operand (inputOf a) (build a) p in
     let y = operand (inputOf b) (build b) (x .pool) in
-    record { gates = (x .gates ++ y .gates) ++ (andGate (x .control) (y .control) t ∷ []); pool = y .pool }
+    let made = x .gates ++ y .gates in
+    record { gates = made ++ (andGate (x .control) (y .control) t ∷ cleaning m made); pool = cleaned m p (y .pool) }
 
 -- the share (01) of an output with target t: its gates, then these reversed without those whose target is t (001, uncompute); then all work lines are free again
 unfoldable pub share : Expr → ℕ → Pool → Built
 share e t p =
     let x = build e t p in
-    record { gates = x .gates ++ uncompute (eqb t) (x .gates); pool = freeAll (x .pool) }
+    record { gates = x .gates ++ uncompute (eqb t) (x .gates); pool = release [] (x .pool) }
 
 -- the shares of outputs in their order, the first with target t
 unfoldable pub shares : List Expr → ℕ → Pool → Built

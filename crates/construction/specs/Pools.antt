@@ -6,7 +6,7 @@ use lib.ListN.{length}
 use lib.Dec.{eqb}
 use Rattle.refusal.specs.Checks.{lowestFrom}
 
--- the first work line, the lines in use, and the most that were in use together
+-- the first work line, the lines in use, and the most that were in use together (02, A7: the most held together)
 pub record Pool : Type 0 where
   pub first : ℕ
   pub used : List ℕ
@@ -29,6 +29,6 @@ lowestFree p = lowestFrom (isAmong (p .used)) (p .first) (length (p .used))
 unfoldable pub takeLine : Pool → Pool
 takeLine p = record { first = p .first; used = lowestFree p ∷ p .used; most = max (p .most) (1 + length (p .used)) }
 
--- all work lines are free again
-unfoldable pub freeAll : Pool → Pool
-freeAll p = record { first = p .first; used = []; most = p .most }
+-- only these lines are still in use: all others are free again (02, A7, and 01 after a share)
+unfoldable pub release : List ℕ → Pool → Pool
+release kept p = record { first = p .first; used = kept; most = p .most }

@@ -2,7 +2,7 @@
 use Prim.Native.Nat.{ℕ, _+_, _≤_, _<_}
 use mathlib.Core.Path.{_≡_}
 use mathlib.Core.Logic.{_≢_}
-use mathlib.Core.Bool.{true, false, cond}
+use mathlib.Core.Bool.{Bool, true, false, cond}
 use mathlib.Core.List.{List, _++_}
 use lib.ListN.{length, getD, take, drop, replicate}
 use lib.Dec.{eqb, ltb}
@@ -64,7 +64,7 @@ pub record OneInput (a b : Expr) : Type 0 where
 -- the controls of an AND are one line only where its operands name the same input (02, A5), whatever pool the construction has reached behind the inputs: no work line is both, and none is an input
 abbrev pub OneControl : Type 0
 OneControl =
-    (n : ℕ) (a b : Expr) (p : Pool) → InputsBelow n (AND a b) → Reached p → n ≤ p .first
+    (n : ℕ) (m : Bool) (a b : Expr) (p : Pool) → InputsBelow n (AND m a b) → Reached p → n ≤ p .first
     → let x = operand (inputOf a) (build a) p in
     let y = operand (inputOf b) (build b) (x .pool) in
     x .control ≡ y .control → OneInput a b

@@ -3,6 +3,7 @@ use Prim.Native.Nat.{ℕ, _+_, _*_, _/_, _<_, _≤_}
 use native.Mathlib.Omega.{arith}
 use native.Mathlib.Nat.{add-zero}
 use mathlib.Core.Path.{_≡_, refl, sym, ap, _∙_}
+use mathlib.Core.Bool.{Bool}
 use mathlib.Core.List.{List, [], _++_, flatMap, append-nil}
 use lib.ListN.{length, getD, take}
 use lib.Seq.{length-take-le}
@@ -30,7 +31,7 @@ entry-back : (list : List ℕ) (at : ℕ) (e : Entry) → ((j : ℕ) → j < 8 �
 unfolding numbersOf
 entry-back list at e h =
     let first : getD list at 0 ≡ e .gates .built = rw add-zero at (h 0 (omega arith)) in
-    rw (first, h 1 (omega arith), h 2 (omega arith), h 3 (omega arith), h 4 (omega arith), h 5 (omega arith)) refl
+    rw (first, h 1 (omega arith), h 2 (omega arith), h 3 (omega arith), h 4 (omega arith), h 5 (omega arith), h 6 (omega arith)) refl
 
 -- so it is in a list that starts with the entries of trees
 module _ (ts : List Expr) (list rest : List ℕ) (p : list ≡ flatMap treeNumbers ts ++ rest) (a : ℕ) (h : a < length ts) where
@@ -107,7 +108,7 @@ module _ {list : List ℕ} {node : Node} (k : OperandsListed list node) where
     pub xor-lows : node ≡ Xor a b → (a < length (k .trees)) × (b < length (k .trees))
     xor-lows n = xor-operands (k .inputs) (length (k .trees)) (k .ordered) n
 
-    pub and-lows : node ≡ And a b → (a < length (k .trees)) × (b < length (k .trees))
+    pub and-lows : {m : Bool} → node ≡ And m a b → (a < length (k .trees)) × (b < length (k .trees))
     and-lows n = and-operands (k .inputs) (length (k .trees)) (k .ordered) n
 
 -- the tree of an XOR or AND
@@ -115,7 +116,7 @@ pub xor-tree : {node : Node} {a b : ℕ} → node ≡ Xor a b → (ts : List Exp
 unfolding treeOf
 xor-tree n ts = rw n refl
 
-pub and-tree : {node : Node} {a b : ℕ} → node ≡ And a b → (ts : List Expr) → treeOf ts node ≡ AND (getD ts a ZERO) (getD ts b ZERO)
+pub and-tree : {node : Node} {m : Bool} {a b : ℕ} → node ≡ And m a b → (ts : List Expr) → treeOf ts node ≡ AND m (getD ts a ZERO) (getD ts b ZERO)
 unfolding treeOf
 and-tree n ts = rw n refl
 

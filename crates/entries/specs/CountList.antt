@@ -10,9 +10,9 @@ use Rattle.node.specs.Trees.{trees}
 use Rattle.entry.specs.declared.Entry.{Entry}
 use Rattle.entry.specs.Entries.{entryOf}
 
--- the eight numbers of an entry (02, A1), in their order: the gates that build the node's tree and those of them that a share undoes, the same two of the Toffolis, the work lines, 1 more than the number of the input that the tree is or 0 for none (02, A5), and two that are 0, since no later node has to know more
+-- the eight numbers of an entry (02, A1), in their order: the gates that build the node's tree and those of them that a share undoes, the same two of the Toffolis, the work lines that the tree still holds when it is built (02, A7), the most that it holds together, 1 more than the number of the input that it is or 0 for none (02, A5), and one that is 0, since no later node has to know more
 unfoldable pub numbersOf : Entry → List ℕ
-numbersOf e = e .gates .built ∷ e .gates .undone ∷ e .toffolis .built ∷ e .toffolis .undone ∷ e .lines ∷ e .input ∷ 0 ∷ 0 ∷ []
+numbersOf e = e .gates .built ∷ e .gates .undone ∷ e .toffolis .built ∷ e .toffolis .undone ∷ e .held ∷ e .lines ∷ e .input ∷ 0 ∷ []
 
 -- the entry whose first number has index at
 abbrev pub entryFrom : List ℕ → ℕ → Entry
@@ -20,8 +20,9 @@ entryFrom list at =
     record {
       gates = record { built = getD list at 0; undone = getD list (at + 1) 0 };
       toffolis = record { built = getD list (at + 2) 0; undone = getD list (at + 3) 0 };
-      lines = getD list (at + 4) 0;
-      input = getD list (at + 5) 0;
+      held = getD list (at + 4) 0;
+      lines = getD list (at + 5) 0;
+      input = getD list (at + 6) 0;
     }
 
 -- the numbers of the entry of a node with this tree

@@ -31,12 +31,13 @@ pub fn get_entry(counts: &[u64], at: usize) -> Entry
             built: counts[at + 2],
             undone: counts[at + 3],
         },
-        lines: counts[at + 4],
-        input: counts[at + 5],
+        held: counts[at + 4],
+        lines: counts[at + 5],
+        input: counts[at + 6],
     }
 }
 
-// Stores an entry from index at on; its last two numbers are 0.
+// Stores an entry from index at on; its last number is 0.
 fn put_entry(counts: &mut [u64], at: usize, e: Entry)
     requires { ⌜ at + 8 ≤ length (now counts) ⌝ }
     ensures { λ _. ⌜ now (counts .exit) ≡ sets (now (counts .entry)) at (numbersOf e) ⌝ }
@@ -45,9 +46,9 @@ fn put_entry(counts: &mut [u64], at: usize, e: Entry)
     counts[at + 1] = e.gates.undone;
     counts[at + 2] = e.toffolis.built;
     counts[at + 3] = e.toffolis.undone;
-    counts[at + 4] = e.lines;
-    counts[at + 5] = e.input;
-    counts[at + 6] = 0;
+    counts[at + 4] = e.held;
+    counts[at + 5] = e.lines;
+    counts[at + 6] = e.input;
     counts[at + 7] = 0;
 }
 
@@ -65,9 +66,9 @@ fn next_entry(node: Node, counts: &[u64]) -> Entry
             let x = get_entry(counts, 8 * (a as usize));
             xor_entry(x, get_entry(counts, 8 * (b as usize)))
         }
-        Node::And(a, b) => {
+        Node::And(marked, a, b) => {
             let x = get_entry(counts, 8 * (a as usize));
-            and_entry(x, get_entry(counts, 8 * (b as usize)))
+            and_entry(marked, x, get_entry(counts, 8 * (b as usize)))
         }
     }
 }

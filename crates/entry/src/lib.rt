@@ -2,12 +2,14 @@
 // is shown as 1,000,001 where it is above 1,000,000.
 use wire::limits::MOST_QUOTED;
 ghost use mathlib.Core.Path.{_≡_};
-ghost use Prim.Native.Nat.{_+_, _≤_};
+ghost use mathlib.Core.Bool.{cond};
+ghost use Prim.Native.Nat.{_+_, _*_, _≤_, max};
 ghost use Rattle.wire.specs.Limits.{mostQuoted};
 ghost use Rattle.wire.specs.Shown.{shown};
 ghost use Rattle.node.specs.Exprs.{Expr, NOT, XOR, AND};
-ghost use Rattle.construction.specs.Steps.{andCount};
-ghost use Rattle.entry.specs.Entries.{inputIn, operandFrom, SmallTally, SmallEntry, leafEntry, entryOf};
+ghost use Rattle.construction.specs.Steps.{andCount, cleaningCount};
+ghost use Rattle.entry.specs.Entries.{inputIn, leafEntry, operandFrom, andTally, entryOf};
+ghost use Rattle.entry.specs.Entries.{SmallTally, SmallEntry, SmallOperand};
 
 // The gates that build a tree, or the Toffolis among them, and how many of these a share undoes:
 // those that are not on the tree's own line. Both grow with the operands' numbers, so that sums of
@@ -17,21 +19,24 @@ pub struct Tally {
     pub undone: u64,
 }
 
-// What is counted of a tree: the gates and the Toffolis among them, and the most work lines that it
-// holds together. Nothing is freed before a share is over, so it still holds them when it is built.
+// What is counted of a tree: the gates and the Toffolis among them, the work lines that it still holds
+// when it is built, and the most that it holds together, which is more where a marked AND freed some.
 // input is 1 more than the number of the input that the tree is, and 0 where it is none: an AND has to
 // know that of its operands.
 pub struct Entry {
     pub gates: Tally,
     pub toffolis: Tally,
+    pub held: u64,
     pub lines: u64,
     pub input: u64,
 }
 
-// What an operand adds to its AND: the gates that make it, the Toffolis among them, and its lines.
+// What an operand adds to its AND: the gates that make it, the Toffolis among them, the lines that it
+// still holds when it is made, and the most that it holds together.
 struct OperandCounts {
     gates: u64,
     toffolis: u64,
+    held: u64,
     lines: u64,
 }
 
@@ -43,6 +48,25 @@ pub fn capped(k: u64) -> u64
         return k;
     }
     MOST_QUOTED + 1
+}
+
+// The larger of two numbers.
+fn larger(a: u64, b: u64) -> u64
+    ensures { λ r. ⌜ r ≡ max a b ⌝ }
+{
+    if a < b {
+        return b;
+    }
+    a
+}
+
+// The most lines that two trees hold together: the second is built beside the lines that the first
+// still holds.
+fn most_lines(first: u64, held: u64, second: u64) -> u64
+    requires { ⌜ (held ≤ mostQuoted + 2) × (second ≤ mostQuoted + 2) ⌝ }
+    ensures { λ r. ⌜ r ≡ shown mostQuoted (max first (held + second)) ⌝ }
+{
+    capped(larger(first, held + second))
 }
 
 // The tally of NOT: one gate more on the same line, which counts c.
@@ -67,34 +91,52 @@ fn tally_xor(x: Tally, y: Tally) -> Tally
     }
 }
 
-// The tally of AND, where x and y make its operands: all of these are undone. One gate more, which
-// counts c, goes to the target.
-fn tally_and(c: u64, x: u64, y: u64) -> Tally
-    requires { ⌜ (c ≤ 1) × (x ≤ mostQuoted + 1) × (y ≤ mostQuoted + 1) ⌝ }
-    ensures { λ r. ⌜ r ≡ record { built = shown mostQuoted (c + x + y); undone = shown mostQuoted (x + y) } ⌝ }
+// How many gates clean up behind an AND, where so many made its operands: as many again where it is
+// marked, else none.
+fn cleaning_count(marked: bool, made: u64) -> u64
+    ensures { λ r. ⌜ r ≡ cleaningCount marked made ⌝ }
 {
+    if marked { made } else { 0 }
+}
+
+// The tally of AND, where so many gates make its operands: all of these are undone, and so are those
+// that clean up. One gate more, which counts c, goes to the target.
+fn tally_and(marked: bool, c: u64, made: u64) -> Tally
+    requires { ⌜ (c ≤ 1) × (made ≤ 2 * (mostQuoted + 1)) ⌝ }
+    ensures { λ r. ⌜ r ≡ andTally marked c made ⌝ }
+{
+    let undone = made + cleaning_count(marked, made);
     Tally {
-        built: capped(c + x + y),
-        undone: capped(x + y),
+        built: capped(c + undone),
+        undone: capped(undone),
     }
+}
+
+// How many lines an AND still holds, where its operands hold so many: none where it is marked.
+fn still_held(marked: bool, held: u64) -> u64
+    ensures { λ r. ⌜ r ≡ cond marked 0 held ⌝ }
+{
+    if marked { 0 } else { held }
 }
 
 // What an operand adds: nothing where it is an input, which is its own control; any other is built on
 // a line of its own.
 fn as_operand(x: Entry) -> OperandCounts
     requires { ⌜ SmallEntry x ⌝ }
-    ensures { λ r. ⌜ r ≡ operandFrom x ⌝ }
+    ensures { λ r. ⌜ (r ≡ operandFrom x) × SmallOperand r ⌝ }
 {
     if x.input != 0 {
         return OperandCounts {
             gates: 0,
             toffolis: 0,
+            held: 0,
             lines: 0,
         };
     }
     OperandCounts {
         gates: x.gates.built,
         toffolis: x.toffolis.built,
+        held: 1 + x.held,
         lines: 1 + x.lines,
     }
 }
@@ -127,6 +169,7 @@ pub fn leaf_entry(gates: u64, input: u64) -> Entry
             built: 0,
             undone: 0,
         },
+        held: 0,
         lines: 0,
         input,
     }
@@ -142,6 +185,7 @@ pub fn not_entry(x: Entry) -> Entry
     Entry {
         gates: tally_not(1, gates),
         toffolis: tally_not(0, toffolis),
+        held: x.held,
         lines: x.lines,
         input: 0,
     }
@@ -159,23 +203,27 @@ pub fn xor_entry(x: Entry, y: Entry) -> Entry
     Entry {
         gates: tally_xor(first, second),
         toffolis: tally_xor(first_toffolis, second_toffolis),
-        lines: capped(x.lines + y.lines),
+        held: capped(x.held + y.held),
+        lines: most_lines(x.lines, x.held, y.lines),
         input: 0,
     }
 }
 
 // The entry of AND: the second operand is made beside the lines that the first holds.
-pub fn and_entry(x: Entry, y: Entry) -> Entry
+pub fn and_entry(marked: bool, x: Entry, y: Entry) -> Entry
     requires { ⌜ SmallEntry x × SmallEntry y ⌝ }
-    ensures { λ r. ⌜ ((a b : Expr) → x ≡ entryOf a → y ≡ entryOf b → r ≡ entryOf (AND a b)) ⌝ }
+    ensures { λ r. ⌜ ((a b : Expr) → x ≡ entryOf a → y ≡ entryOf b → r ≡ entryOf (AND marked a b)) ⌝ }
 {
     let first = as_operand(x);
     let second = as_operand(y);
+    let held = still_held(marked, first.held + second.held);
+    let lines = most_lines(first.lines, first.held, second.lines);
     let toffolis = gate_toffolis(x.input, y.input);
     Entry {
-        gates: tally_and(1, first.gates, second.gates),
-        toffolis: tally_and(toffolis, first.toffolis, second.toffolis),
-        lines: capped(first.lines + second.lines),
+        gates: tally_and(marked, 1, first.gates + second.gates),
+        toffolis: tally_and(marked, toffolis, first.toffolis + second.toffolis),
+        held: capped(held),
+        lines,
         input: 0,
     }
 }

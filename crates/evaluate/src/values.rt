@@ -25,7 +25,7 @@ fn node_value(node: Node, values: &[u8], inputs: &[u8]) -> u8
         Node::Input(j) => inputs[j as usize],
         Node::Not(a) => xor_bits(1, values[a as usize]),
         Node::Xor(a, b) => xor_bits(values[a as usize], values[b as usize]),
-        Node::And(a, b) => and_bits(values[a as usize], values[b as usize]),
+        Node::And(_, a, b) => and_bits(values[a as usize], values[b as usize]),
     }
 }
 

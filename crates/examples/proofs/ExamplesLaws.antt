@@ -18,13 +18,13 @@ use Rattle.circuit.specs.Reading as circuit
 use Rattle.run.specs.RunCircuit.{runForwards}
 use Rattle.node.specs.Exprs.{size}
 use Rattle.node.specs.NodeBytes.{nodeBytes}
-use Rattle.node.specs.Nodes.{operandsFit, nodeAt, nodeFits}
+use Rattle.node.specs.Nodes.{markFits, operandsFit, nodeAt, nodeFits}
 use Rattle.program.specs.Programs.{outputTree}
 use Rattle.program.specs.Format.{programFile}
 use Rattle.program.specs.Reading.{lengthsFit, outputFits, programOf, readBodies, readProgram}
 use Rattle.node.specs.Trees.{treeOf, treesFrom, trees}
-use Rattle.construction.specs.Pools.{isAmong, allFree, lowestFree, takeLine, freeAll}
-use Rattle.construction.specs.Construction.{inputOf, operand, andGate, build, share, shares, allShares, linesNeeded}
+use Rattle.construction.specs.Pools.{isAmong, allFree, lowestFree, takeLine, release}
+use Rattle.construction.specs.Construction.{inputOf, operand, andGate, cleaning, cleaned, build, share, shares, allShares, linesNeeded}
 use Rattle.construction.specs.Construction as construction
 use Rattle.construction.specs.Counting.{gatesShown}
 use Rattle.sizing.specs.Sizing.{nodeSizes}
@@ -32,15 +32,16 @@ use Rattle.wire.specs.Shown.{shown}
 use Rattle.compilation.specs.Compiling.{outputTrees, programCircuit}
 use Rattle.line.specs.Lines.{digitCount, decimal, field, line, refusedLine}
 use Rattle.text.specs.Listings.{gateLine, firstLine, listing}
-use Rattle.examples.specs.Examples.{wholeFile, norFile, threeFile, xorFile, Examples}
+use Rattle.examples.specs.Examples.{wholeFile, norFile, threeFile, markedFile, xorFile, Examples}
 use Rattle.examples.proofs.RowLaws.{Known, lines-refused, area-refused, written, lists-refused, row}
 
 pub examples : Examples
-unfolding programFile nodeBytes readProgram readBodies tableFits entriesFit entriesFrom lengthsFit arityFits nodeFits operandsFit outputFits programOf nodeAt lowestFrom size nodeSizes shown programCircuit outputTrees outputTree tabulateFrom trees treesFrom treeOf construction.circuitGates allShares shares share build inputOf operand andGate isAmong allFree lowestFree takeLine freeAll linesNeeded gatesShown uncompute without target circuitFile openingBytes contentsBytes entriesBytes gatesBytes gateBytes runForwards circuit.readWithLines circuit.readCircuit circuit.readHead circuit.headIn circuit.circuitOf circuit.lengthsFit circuit.rangesFit gateFits fieldsFit wellFormed lowerFirst linesFit gateAt bitsFit run step addend xorBit listing firstLine gateLine refusedLine line field decimal digitCount flatMap
+unfolding programFile nodeBytes readProgram readBodies tableFits entriesFit entriesFrom lengthsFit arityFits nodeFits markFits operandsFit outputFits programOf nodeAt lowestFrom size nodeSizes shown programCircuit outputTrees outputTree tabulateFrom trees treesFrom treeOf construction.circuitGates allShares shares share build inputOf operand andGate cleaning cleaned isAmong allFree lowestFree takeLine release linesNeeded gatesShown uncompute without target circuitFile openingBytes contentsBytes entriesBytes gatesBytes gateBytes runForwards circuit.readWithLines circuit.readCircuit circuit.readHead circuit.headIn circuit.circuitOf circuit.lengthsFit circuit.rangesFit gateFits fieldsFit wellFormed lowerFirst linesFit gateAt bitsFit run step addend xorBit listing firstLine gateLine refusedLine line field decimal digitCount flatMap
 examples =
     let whole : Known wholeFile = record { reads = refl; small = refl; few = omega arith } in
     let nor : Known norFile = record { reads = refl; small = refl; few = omega arith } in
     let three : Known threeFile = record { reads = refl; small = refl; few = omega arith } in
+    let marked : Known markedFile = record { reads = refl; small = refl; few = omega arith } in
     let xor : Known xorFile = record { reads = refl; small = refl; few = omega arith } in
     record {
       whole = row whole _ (omega arith) (omega arith) (leb-true _ (fileLength mostGates) refl) refl refl;
@@ -57,5 +58,8 @@ examples =
       three-refused = lists-refused three 0 (omega arith) (omega arith) (omega arith);
       three-target = λ grant sizes area a b c d. ap (λ (file : List ℕ). runForwards file (1 ∷ 1 ∷ 1 ∷ 1 ∷ 0 ∷ [])) (written three grant sizes area a b c d);
       three-line = λ grant sizes area a b c d. ap (λ (file : List ℕ). runForwards file (1 ∷ 1 ∷ 1 ∷ 1 ∷ 1 ∷ [])) (written three grant sizes area a b c d);
+      marked = row marked _ (omega arith) (omega arith) (leb-true _ (fileLength mostGates) refl) refl refl;
+      marked-two = refl;
       xor-self = row xor _ (omega arith) (omega arith) (leb-true _ (fileLength mostGates) refl) refl refl;
+      xor-marked = refl;
     }

@@ -1,7 +1,8 @@
--- The starred examples of 01, as one table about the definitions of reading, compiling, running and listing, and the bytes of program files and of two circuit files.
+-- The starred examples of 01 and the cases of 02, as one table about the definitions of reading, compiling, running and listing, and the bytes of program files and of two circuit files.
 use Prim.Native.Nat.{ℕ, _≤_}
 use Prim.Native.String.{String}
 use mathlib.Core.Path.{_≡_}
+use mathlib.Core.Bool.{true, false}
 use mathlib.Core.List.{List, [], _∷_, _++_}
 use lib.ListN.{length, take, drop, replicate}
 use Rattle.refusal.specs.Answers.{result, refused}
@@ -90,6 +91,14 @@ threeFile =
 abbrev pub threeCircuit : Circuit
 threeCircuit = record { inputs = 3; outputs = 1; work = 1; gates = Toffoli 0 1 4 ∷ Toffoli 2 4 3 ∷ Toffoli 0 1 4 ∷ [] }
 
+-- the same with its last AND marked (02, A7): the second byte of that node is 1
+abbrev pub markedFile : List ℕ
+markedFile = take 61 threeFile ++ (1 ∷ drop 62 threeFile)
+
+-- its circuit
+abbrev pub markedCircuit : Circuit
+markedCircuit = record { inputs = 3; outputs = 1; work = 1; gates = Toffoli 0 1 4 ∷ Toffoli 2 4 3 ∷ Toffoli 0 1 4 ∷ Toffoli 0 1 4 ∷ Toffoli 0 1 4 ∷ [] }
+
 -- the file of XOR of input 0 with itself
 abbrev pub xorFile : List ℕ
 xorFile =
@@ -101,7 +110,7 @@ xorFile =
 
 -- a program with a node of each kind and two outputs, and no number twice where two could be exchanged
 abbrev pub kindsProgram : Program
-kindsProgram = record { inputs = 3; nodes = node.Zero ∷ node.One ∷ Input 2 ∷ node.Not 1 ∷ Xor 3 2 ∷ And 4 0 ∷ []; outputs = 5 ∷ 3 ∷ [] }
+kindsProgram = record { inputs = 3; nodes = node.Zero ∷ node.One ∷ Input 2 ∷ node.Not 1 ∷ Xor 3 2 ∷ And false 4 0 ∷ []; outputs = 5 ∷ 3 ∷ [] }
 
 -- its file
 abbrev pub kindsFile : List ℕ
@@ -143,10 +152,10 @@ RunCase file k c start after =
     (grant : ℕ) (sizes area : List ℕ) → c .work ≤ grant → grant ≤ 1024 → k ≤ length sizes → length (circuitFile c) ≤ length area
     → runForwards (fileWritten (headOf c) (compileOf file grant sizes area .area)) start ≡ result after
 
--- the starred examples: a row for each, which holds whatever the size list and the area held before
+-- the starred examples of 01 and cases of 02: a row for each, which holds whatever the size list and the area held before
 pub record Examples : Type 0 where
   -- the whole case: one Toffoli and no work line, so that every grant from 0 to 1,024 is enough
-  pub whole : CompiledCase wholeFile (record { inputs = 2; nodes = Input 0 ∷ Input 1 ∷ And 0 1 ∷ []; outputs = 2 ∷ [] }) (1 ∷ 1 ∷ 3 ∷ []) wholeCircuit
+  pub whole : CompiledCase wholeFile (record { inputs = 2; nodes = Input 0 ∷ Input 1 ∷ And false 0 1 ∷ []; outputs = 2 ∷ [] }) (1 ∷ 1 ∷ 3 ∷ []) wholeCircuit
       "lines 2 1 0 gates 1\nT 0 1 2\n"
   -- a second program file byte for byte
   pub kinds-bytes : ProgramBytes kindsProgram kindsFile
@@ -163,11 +172,11 @@ pub record Examples : Type 0 where
   -- inputs 1 1, target 1: the target ends 0
   pub whole-target : RunCase wholeFile 3 wholeCircuit (1 ∷ 1 ∷ 1 ∷ []) (1 ∷ 1 ∷ 0 ∷ [])
   -- NOR as AND of two NOTs: 9 gates, w 2
-  pub nor : CompiledCase norFile (record { inputs = 2; nodes = Input 0 ∷ Input 1 ∷ node.Not 0 ∷ node.Not 1 ∷ And 2 3 ∷ []; outputs = 4 ∷ [] }) (1 ∷ 1 ∷ 2 ∷ 2 ∷ 5 ∷ [])
+  pub nor : CompiledCase norFile (record { inputs = 2; nodes = Input 0 ∷ Input 1 ∷ node.Not 0 ∷ node.Not 1 ∷ And false 2 3 ∷ []; outputs = 4 ∷ [] }) (1 ∷ 1 ∷ 2 ∷ 2 ∷ 5 ∷ [])
       (record { inputs = 2; outputs = 1; work = 2; gates = gate.Not 3 ∷ Cnot 0 3 ∷ gate.Not 4 ∷ Cnot 1 4 ∷ Toffoli 3 4 2 ∷ Cnot 1 4 ∷ gate.Not 4 ∷ Cnot 0 3 ∷ gate.Not 3 ∷ [] })
       "lines 2 1 2 gates 9\nN 3\nC 0 3\nN 4\nC 1 4\nT 3 4 2\nC 1 4\nN 4\nC 0 3\nN 3\n"
   -- AND(AND(input 0, input 1), input 2): T 0 1 4, T 2 4 3, T 0 1 4, w 1
-  pub three : CompiledCase threeFile (record { inputs = 3; nodes = Input 0 ∷ Input 1 ∷ And 0 1 ∷ Input 2 ∷ And 2 3 ∷ []; outputs = 4 ∷ [] }) (1 ∷ 1 ∷ 3 ∷ 1 ∷ 5 ∷ []) threeCircuit
+  pub three : CompiledCase threeFile (record { inputs = 3; nodes = Input 0 ∷ Input 1 ∷ And false 0 1 ∷ Input 2 ∷ And false 2 3 ∷ []; outputs = 4 ∷ [] }) (1 ∷ 1 ∷ 3 ∷ 1 ∷ 5 ∷ []) threeCircuit
       "lines 3 1 1 gates 3\nT 0 1 4\nT 2 4 3\nT 0 1 4\n"
   -- a grant of 0 gives 10, place 1
   pub three-grant : (sizes area : List ℕ) → 5 ≤ length sizes
@@ -178,7 +187,14 @@ pub record Examples : Type 0 where
   pub three-target : RunCase threeFile 5 threeCircuit (1 ∷ 1 ∷ 1 ∷ 1 ∷ 0 ∷ []) (1 ∷ 1 ∷ 1 ∷ 0 ∷ 0 ∷ [])
   -- with line 4 starting at 1, the target stays 1 and line 4 ends 1
   pub three-line : RunCase threeFile 5 threeCircuit (1 ∷ 1 ∷ 1 ∷ 1 ∷ 1 ∷ []) (1 ∷ 1 ∷ 1 ∷ 1 ∷ 1 ∷ [])
+  -- with its last AND marked (02, A7), what made its operands is undone behind it, and both again at the end
+  pub marked : CompiledCase markedFile (record { inputs = 3; nodes = Input 0 ∷ Input 1 ∷ And false 0 1 ∷ Input 2 ∷ And true 2 3 ∷ []; outputs = 4 ∷ [] }) (1 ∷ 1 ∷ 3 ∷ 1 ∷ 5 ∷ []) markedCircuit
+      "lines 3 1 1 gates 5\nT 0 1 4\nT 2 4 3\nT 0 1 4\nT 0 1 4\nT 0 1 4\n"
+  -- a mark of 2 gives 5 at its node
+  pub marked-two : readProgram (take 61 markedFile ++ (2 ∷ drop 62 markedFile)) ≡ refused 5 4
   -- XOR of input 0 with itself: C 0 1 twice
   pub xor-self : CompiledCase xorFile (record { inputs = 1; nodes = Input 0 ∷ Xor 0 0 ∷ []; outputs = 1 ∷ [] }) (1 ∷ 3 ∷ [])
       (record { inputs = 1; outputs = 1; work = 0; gates = Cnot 0 1 ∷ Cnot 0 1 ∷ [] })
       "lines 1 1 0 gates 2\nC 0 1\nC 0 1\n"
+  -- a mark on it gives 5 at its node
+  pub xor-marked : readProgram (take 43 xorFile ++ (1 ∷ drop 44 xorFile)) ≡ refused 5 1

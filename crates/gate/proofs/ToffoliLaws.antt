@@ -42,7 +42,8 @@ module _ (c : ℕ) where
   counted-append (Cnot a t ∷ gs) hs = omega (arith, counted-append gs hs)
   counted-append (Toffoli a b t ∷ gs) hs = omega (arith, counted-append gs hs)
 
-  counted-reverse : (gs : List Gate) → counted c (reverse gs) ≡ counted c gs
+  -- gates in reverse have as many
+  pub counted-reverse : (gs : List Gate) → counted c (reverse gs) ≡ counted c gs
   counted-reverse [] = refl
   counted-reverse (g ∷ gs) =
       ap (counted c) (reverse-cons g gs) ∙ omega (arith, counted-append (reverse gs) (g ∷ []), counted-reverse gs, counted-append (g ∷ []) gs)

@@ -24,6 +24,8 @@ fn refused_by_the_reader() {
     list_file(b"no_nodes");
     list_file(b"inputs_65");
     list_file(b"bad_node");
+    list_file(b"mark_on_xor");
+    list_file(b"mark_2");
     list_file(b"bad_output");
 }
 
@@ -38,6 +40,14 @@ fn examples() {
     list_file(b"zero");
     list_file(b"one");
     list_file(b"three_outputs");
+}
+
+// Marked ANDs, and what the first of them is without its marks.
+fn marks() {
+    list_file(b"two_ands");
+    list_file(b"two_ands_marked");
+    list_file(b"nested_marks");
+    list_file(b"marked_outputs");
 }
 
 // Outputs about the largest unfolded size.
@@ -56,6 +66,10 @@ fn limits() {
     list_file(b"gates_8000");
     list_file(b"gates_8001");
     list_file(b"gates_524352");
+    list_file(b"gates_3000000");
+    list_file(b"gates_3000001");
+    list_file(b"gates_3000002");
+    list_file(b"gates_over_64_bits");
     list_file(b"outputs_64");
     list_file(b"longest_file");
 }
@@ -71,6 +85,7 @@ fn long_inputs() {
 fn main() {
     refused_by_the_reader();
     examples();
+    marks();
     sizes();
     limits();
     long_inputs();

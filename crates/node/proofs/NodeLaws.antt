@@ -1,12 +1,12 @@
 -- Laws of reading nodes. Assumes nothing.
 use Prim.Native.Nat.{ℕ, _+_, _*_, _<_}
 use native.Mathlib.Omega.{arith}
-use mathlib.Core.Path.{_≡_, sym, ap, subst, _∙_}
-use mathlib.Core.Bool.{true, false, _&&_, false≢true}
+use mathlib.Core.Path.{_≡_, refl, sym, ap, subst, _∙_}
+use mathlib.Core.Bool.{Bool, true, false, _&&_, false≢true}
 use mathlib.Core.List.{List}
 use lib.ListN.{getD}
 use lib.Dec.{eqb, leb, ltb}
-use borrow.Author.Tests.{lt-leb, ltb-true, eqb-false}
+use borrow.Author.Tests.{eq-eqb, ne-eqb, lt-leb, ltb-true, eqb-false}
 use Rattle.refusal.specs.Answers.{result}
 use Rattle.wire.specs.Bytes.{at16}
 use Rattle.refusal.specs.declared.causes.Refusal.the-variants as cause
@@ -16,7 +16,7 @@ use Rattle.node.specs.declared.nodes.Node.{Node}
 use Rattle.node.specs.declared.nodes.Node.the-variants.{Input, Not, Xor, And}
 use Rattle.node.specs.declared.nodes.NodeRead.{NodeRead}
 use Rattle.node.specs.declared.nodes.NodeRead.the-variants.{Good, Bad}
-use Rattle.node.specs.Nodes.{nodeOf, operandsFit, nodeAt, nodeFits, NodeOk}
+use Rattle.node.specs.Nodes.{nodeOf, markFits, operandsFit, nodeAt, nodeFits, NodeOk}
 use Rattle.node.specs.Steps.{readNode, nodeRead}
 
 module _ (n : ℕ) (body : List ℕ) (i : ℕ) {r : NodeRead} (e : nodeRead r ≡ readNode n body i) where
@@ -34,12 +34,22 @@ module _ (n : ℕ) (body : List ℕ) (i : ℕ) {r : NodeRead} (e : nodeRead r �
   unfolding readNode
   read-index {k} g = sym (failed-place (nodeAt body i) (nodeFits n body i) (cause.Node i) 5 k (sym e ∙ ap nodeRead g))
 
+-- the test of a mark: 0 or 1 on an AND, and 0 on any other node
+module _ (kind mark : ℕ) where
+  pub mark-of-and : kind ≡ 5 → leb mark 1 ≡ markFits kind mark
+  unfolding markFits
+  mark-of-and e = rw (eq-eqb kind 5 e) refl
+
+  pub mark-of-other : (kind ≡ 5 → ⊥) → eqb mark 0 ≡ markFits kind mark
+  unfolding markFits
+  mark-of-other e = rw (ne-eqb kind 5 e) refl
+
 -- the operands of a node in order are lower, and its input is below n
-module _ (n i kind a b : ℕ) where
+module _ (n i kind mark a b : ℕ) where
   above-one : eqb kind 0 ≡ false → eqb kind 1 ≡ false → leb kind 1 ≡ false
   above-one z o = lt-leb kind 1 (omega (arith, eqb-false kind 0 z, eqb-false kind 1 o))
 
-  operands-ok : operandsFit n i kind a b ≡ true → NodeOk n i (nodeOf kind a b)
+  operands-ok : operandsFit n i kind a b ≡ true → NodeOk n i (nodeOf kind mark a b)
   unfolding operandsFit
   operands-ok e =
       by-test (eqb kind 0) (λ k. rw k tt)
@@ -60,9 +70,10 @@ pub node-ok : (n : ℕ) (body : List ℕ) (i : ℕ) → nodeFits n body i ≡ tr
 unfolding nodeFits nodeAt
 node-ok n body i e =
     let kind : ℕ = getD body (6 * i) 0 in
+    let mark : ℕ = getD body (6 * i + 1) 0 in
     let a : ℕ = at16 body (6 * i + 2) in
     let b : ℕ = at16 body (6 * i + 4) in
-    operands-ok n i kind a b (both-second (eqb (getD body (6 * i + 1) 0) 0) (operandsFit n i kind a b) e)
+    operands-ok n i kind mark a b (both-second (markFits kind mark) (operandsFit n i kind a b) e)
 
 -- a node in order has an input that is there, and operands that are lower
 module _ (n i : ℕ) {node : Node} (ok : NodeOk n i node) where
@@ -75,5 +86,5 @@ module _ (n i : ℕ) {node : Node} (ok : NodeOk n i node) where
   pub xor-operands : {a b : ℕ} → node ≡ Xor a b → (a < i) × (b < i)
   xor-operands e = subst (NodeOk n i) e ok
 
-  pub and-operands : {a b : ℕ} → node ≡ And a b → (a < i) × (b < i)
+  pub and-operands : {m : Bool} {a b : ℕ} → node ≡ And m a b → (a < i) × (b < i)
   and-operands e = subst (NodeOk n i) e ok

@@ -39,7 +39,7 @@ tree-same m i One ts us w h = refl
 tree-same m i (Input j) ts us w h = refl
 tree-same m i (Not a) ts us w h = ap NOT (h a w)
 tree-same m i (Xor a b) ts us w h = ap₂ XOR (h a (w .0)) (h b (w .1))
-tree-same m i (And a b) ts us w h = ap₂ AND (h a (w .0)) (h b (w .1))
+tree-same m i (And k a b) ts us w h = ap₂ (AND k) (h a (w .0)) (h b (w .1))
 
 from-at : (m : ℕ) (ts : List Expr) (ns : List Node) (k : ℕ) → k < length ns → NodeOk m (length ts + k) (getD ns k Zero)
     → getD (treesFrom ts ns) (length ts + k) ZERO ≡ treeOf (treesFrom ts ns) (getD ns k Zero)
@@ -83,7 +83,7 @@ tree-below n i One ts v h = tt
 tree-below n i (Input j) ts v h = v
 tree-below n i (Not a) ts v h = each-at n ts h a
 tree-below n i (Xor a b) ts v h = (each-at n ts h a, each-at n ts h b)
-tree-below n i (And a b) ts v h = (each-at n ts h a, each-at n ts h b)
+tree-below n i (And m a b) ts v h = (each-at n ts h a, each-at n ts h b)
 
 from-below : (n d : ℕ) (ts : List Expr) (ns : List Node) → ((k : ℕ) → k < length ns → NodeOk n (d + k) (getD ns k Zero)) → EachBelow n ts → EachBelow n (treesFrom ts ns)
 unfolding treesFrom

@@ -2,6 +2,7 @@
 use Prim.Native.Nat.{ℕ, _*_, _<_}
 use native.Mathlib.Omega.{arith}
 use mathlib.Core.Path.{_≡_, refl, ap, ap₂, _∙_}
+use mathlib.Core.Bool.{Bool}
 use mathlib.Core.List.{List, [], _∷_, flatMap}
 use lib.ListN.{length, getD, List·getD-map}
 use Rattle.wire.specs.Bits.{xorBit, bit, Bits}
@@ -22,7 +23,7 @@ value-bit ONE x h = omega arith
 value-bit (INPUT j) x h = bit-below x h j
 value-bit (NOT a) x h = xor-bit 1 (value a x)
 value-bit (XOR a b) x h = xor-bit (value a x) (value b x)
-value-bit (AND a b) x h = and-bit (value a x) (value b x) (value-bit a x h) (value-bit b x h)
+value-bit (AND m a b) x h = and-bit (value a x) (value b x) (value-bit a x h) (value-bit b x h)
 
 -- there is a value for each node, and it is its tree's
 pub values-length : (ns : List Node) (x : List ℕ) → length (nodeValues ns x) ≡ length ns
@@ -66,6 +67,6 @@ module _ (x : List ℕ) where
   unfolding treeOf value
   next-xor a b p ts e = ap (λ (v : ℕ). v ∷ []) (p ∙ ap₂ xorBit (entry ts e a) (entry ts e b))
 
-  pub next-and : {vs : List ℕ} (a b : ℕ) {r : ℕ} → r ≡ bit vs a * bit vs b → NextValue (And a b) vs r
+  pub next-and : {vs : List ℕ} (m : Bool) (a b : ℕ) {r : ℕ} → r ≡ bit vs a * bit vs b → NextValue (And m a b) vs r
   unfolding treeOf value
-  next-and a b p ts e = ap (λ (v : ℕ). v ∷ []) (p ∙ ap₂ (λ (v w : ℕ). v * w) (entry ts e a) (entry ts e b))
+  next-and m a b p ts e = ap (λ (v : ℕ). v ∷ []) (p ∙ ap₂ (λ (v w : ℕ). v * w) (entry ts e a) (entry ts e b))

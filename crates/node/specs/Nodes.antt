@@ -9,14 +9,18 @@ use Rattle.wire.specs.Lists.{tabulate}
 use Rattle.node.specs.declared.nodes.Node.{Node}
 use Rattle.node.specs.declared.nodes.Node.the-variants.{Zero, One, Input, Not, Xor, And}
 
--- the node of a kind with these fields, once cause 5 has refused every kind above 5
-abbrev pub nodeOf : ℕ → ℕ → ℕ → Node
-nodeOf kind a b =
+-- the node of a kind with this mark and these fields, once cause 5 has refused every kind above 5 and every mark that is not right
+abbrev pub nodeOf : ℕ → ℕ → ℕ → ℕ → Node
+nodeOf kind mark a b =
     cond (eqb kind 0) Zero
     (cond (eqb kind 1) One
     (cond (eqb kind 2) (Input a)
     (cond (eqb kind 3) (Not a)
-    (cond (eqb kind 4) (Xor a b) (And a b)))))
+    (cond (eqb kind 4) (Xor a b) (And (eqb mark 1) a b)))))
+
+-- the mark (02, A7) is right for the kind of its node: 0 or 1 on an AND, 0 on any other
+unfoldable pub markFits : ℕ → ℕ → Bool
+markFits kind mark = cond (eqb kind 5) (leb mark 1) (eqb mark 0)
 
 -- the fields a and b of node i over n inputs are right for its kind: an input's number is below n, an operand is lower than i, an unused field is zero
 unfoldable pub operandsFit : ℕ → ℕ → ℕ → ℕ → ℕ → Bool
@@ -28,16 +32,16 @@ operandsFit n i kind a b =
 
 -- node i of a node body
 unfoldable pub nodeAt : List ℕ → ℕ → Node
-nodeAt body i = nodeOf (getD body (6 * i) 0) (at16 body (6 * i + 2)) (at16 body (6 * i + 4))
+nodeAt body i = nodeOf (getD body (6 * i) 0) (getD body (6 * i + 1) 0) (at16 body (6 * i + 2)) (at16 body (6 * i + 4))
 
 -- the nodes of a node body
 abbrev pub nodesIn : List ℕ → List Node
 nodesIn body = tabulate (nodeAt body) (length body / 6)
 
--- the test of cause 5 at node i: its zero byte is zero, and its kind and fields are right
+-- the test of cause 5 at node i: its mark, its kind and its fields are right
 unfoldable pub nodeFits : ℕ → List ℕ → ℕ → Bool
 nodeFits n body i =
-    eqb (getD body (6 * i + 1) 0) 0
+    markFits (getD body (6 * i) 0) (getD body (6 * i + 1) 0)
     && operandsFit n i (getD body (6 * i) 0) (at16 body (6 * i + 2)) (at16 body (6 * i + 4))
 
 -- a node's operands are lower than i, and its input's number, if it has one, is below n
@@ -47,7 +51,7 @@ NodeOk n i One = Unit {0}
 NodeOk n i (Input j) = j < n
 NodeOk n i (Not a) = a < i
 NodeOk n i (Xor a b) = (a < i) × (b < i)
-NodeOk n i (And a b) = (a < i) × (b < i)
+NodeOk n i (And m a b) = (a < i) × (b < i)
 
 -- every node of the table is in order
 abbrev pub TableOk : ℕ → List Node → Type 0

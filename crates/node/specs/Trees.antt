@@ -13,7 +13,7 @@ treeOf ts One = ONE
 treeOf ts (Input j) = INPUT j
 treeOf ts (Not a) = NOT (getD ts a ZERO)
 treeOf ts (Xor a b) = XOR (getD ts a ZERO) (getD ts b ZERO)
-treeOf ts (And a b) = AND (getD ts a ZERO) (getD ts b ZERO)
+treeOf ts (And m a b) = AND m (getD ts a ZERO) (getD ts b ZERO)
 
 -- the trees of further nodes, behind those already there
 unfoldable pub treesFrom : List Expr → List Node → List Expr

@@ -4,17 +4,18 @@ use wire::numbers::get16;
 ghost use mathlib.Core.Path.{_≡_};
 ghost use Prim.Native.Nat.{_+_, _*_, _≤_};
 ghost use lib.ListN.{length};
-ghost use Rattle.node.specs.Nodes.{nodeOf, operandsFit, nodeAt, nodeFits};
+ghost use Rattle.node.specs.Nodes.{nodeOf, markFits, operandsFit, nodeAt, nodeFits};
 ghost use Rattle.node.specs.Steps.{readNode, nodeRead};
 
-// A node with the number of its input or the indices of its operands.
+// A node with the number of its input or the indices of its operands; an AND says first whether it is
+// marked.
 pub enum Node {
     Zero,
     One,
     Input(u16),
     Not(u16),
     Xor(u16, u16),
-    And(u16, u16),
+    And(bool, u16, u16),
 }
 
 // What reading a node finds: the node, or the index of a node that is not in order.
@@ -23,11 +24,11 @@ pub enum NodeRead {
     Bad(usize),
 }
 
-// The node of a kind with these fields. A kind above 5 does not come here: cause 5 refuses it. The
-// leaves are tested first, so that no jump table is made of it: where that lies would decide how fast
-// a recursion over nodes is.
-fn node_of(kind: u8, a: u16, b: u16) -> Node
-    ensures { λ r. ⌜ r ≡ nodeOf kind a b ⌝ }
+// The node of a kind with this mark and these fields. A kind above 5 or a mark that is not right does
+// not come here: cause 5 refuses it. The leaves are tested first, so that no jump table is made of it:
+// where that lies would decide how fast a recursion over nodes is.
+fn node_of(kind: u8, mark: u8, a: u16, b: u16) -> Node
+    ensures { λ r. ⌜ r ≡ nodeOf kind mark a b ⌝ }
 {
     if kind < 3 {
         if kind == 2 {
@@ -42,7 +43,7 @@ fn node_of(kind: u8, a: u16, b: u16) -> Node
     } else if kind == 3 {
         Node::Not(a)
     } else {
-        Node::And(a, b)
+        Node::And(mark == 1, a, b)
     }
 }
 
@@ -52,7 +53,22 @@ pub fn node_at(body: &[u8], i: usize) -> Node
     ensures { λ r. ⌜ r ≡ nodeAt (now (body .entry)) i ⌝ }
 {
     let at = 6 * i;
-    node_of(body[at], get16(body, at + 2), get16(body, at + 4))
+    node_of(
+        body[at],
+        body[at + 1],
+        get16(body, at + 2),
+        get16(body, at + 4),
+    )
+}
+
+// Whether the mark is right for a node of this kind.
+fn mark_fits(kind: u8, mark: u8) -> bool
+    ensures { λ r. ⌜ r ≡ markFits kind mark ⌝ }
+{
+    if kind == 5 {
+        return mark <= 1;
+    }
+    mark == 0
 }
 
 // Whether a and b are right for node i of this kind, where there are so many inputs.
@@ -87,7 +103,7 @@ fn node_fits(body: &[u8], i: usize, inputs: usize) -> bool
         get16(body, at + 2),
         get16(body, at + 4),
     );
-    both(body[at + 1] == 0, right)
+    both(mark_fits(body[at], body[at + 1]), right)
 }
 
 // Node i of a node body, or its index where it is not in order.

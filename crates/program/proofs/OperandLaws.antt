@@ -2,6 +2,7 @@
 use Prim.Native.Nat.{ℕ, _+_, _*_, _/_, _<_, _≤_}
 use native.Mathlib.Omega.{arith}
 use mathlib.Core.Path.{_≡_, ap, subst, _∙_}
+use mathlib.Core.Bool.{Bool}
 use mathlib.Core.List.{List}
 use lib.ListN.{length, getD}
 use Rattle.wire.proofs.ListLaws.{tabulate-length, tabulate-at}
@@ -68,10 +69,10 @@ module _ {nodes : List ℕ} {i : ℕ} (v : Valid nodes i) where
       let low = xor-operands (v .inputs) i ok e in
       record { first = operand a (low .0) (omega (arith, ap size is)); second = operand b (low .1) (omega (arith, ap size is)); is = is }
 
-  pub is-and : {a b : ℕ} → nodeAt nodes i ≡ And a b → Binary AND nodes i a b
+  pub is-and : {m : Bool} {a b : ℕ} → nodeAt nodes i ≡ And m a b → Binary (AND m) nodes i a b
   unfolding treeIn treeOf size
-  is-and {a} {b} e =
-      let is : treeIn nodes i ≡ AND (treeIn nodes a) (treeIn nodes b) = tree-is (And a b) e in
+  is-and {m} {a} {b} e =
+      let is : treeIn nodes i ≡ AND m (treeIn nodes a) (treeIn nodes b) = tree-is (And m a b) e in
       let low = and-operands (v .inputs) i ok e in
       record { first = operand a (low .0) (omega (arith, ap size is)); second = operand b (low .1) (omega (arith, ap size is)); is = is }
 

@@ -5,8 +5,10 @@ use native.Mathlib.Nat.{add-zero}
 use mathlib.Core.Path.{_≡_, refl, sym, _∙_}
 use mathlib.Core.Logic.{_≢_}
 use mathlib.Core.List.{List, [], _∷_}
+use lib.Dec.{eqb}
 use Rattle.gate.specs.declared.gates.Gate.{Gate}
 use Rattle.gate.specs.declared.gates.Gate.the-variants.{Cnot, Toffoli}
+use Rattle.gate.specs.Running.{uncompute}
 use Rattle.areas.specs.AreaGates.{putGates, Stored}
 use Rattle.construction.specs.Pools.{allFree}
 use Rattle.construction.specs.Construction.{andGate}
@@ -14,7 +16,8 @@ use Rattle.construction.specs.Steps.{fresh}
 use Rattle.construction.proofs.Numbers.{held, buildFrom}
 use Rattle.construction.proofs.AndLaws.{and-by}
 use Rattle.construction.proofs.PoolLaws.{reached-gates, reached-free, start-free}
-use Rattle.progress.specs.Progress.{lineNumbers, packed, Piece, single, tree, Wrote}
+use Rattle.pool.specs.LinePools.{lineNumbers}
+use Rattle.progress.specs.Progress.{packed, Piece, single, tree, Wrote, madeSince, CleanedUp}
 
 -- a piece's gates where f is the lowest free line, and how many lines it holds then, by numbers
 abbrev pub pieceGates : Piece → ℕ → List Gate
@@ -89,3 +92,9 @@ module _ {c d t k f r : ℕ} {l l₁ : List ℕ} where
       let low : min c d ≡ d = omega arith in
       let high : max c d ≡ c = omega arith in
       gate-wrote (and-by c d t (λ g. Toffoli d c t ≡ g) (λ q. absurd (ne q)) (λ q. rw (low, high) refl))
+
+-- what was undone behind an AND is cleaned up
+pub cleaned-up : {k p f out n g r : ℕ} {old new : List ℕ} → Stored (uncompute (eqb out) (madeSince old k p)) (p / lineNumbers) n old new → g ≡ f → f ≤ p % lineNumbers → r ≡ packed n g → CleanedUp k p f out r old new
+cleaned-up {n = n} {g = g} s free low e =
+    let small : g < lineNumbers = omega (arith, free, low) in
+    record { stored = rw (packed-gates n e small) s; freed = packed-free n e small ∙ free }

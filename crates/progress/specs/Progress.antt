@@ -1,17 +1,19 @@
 -- How far writing a circuit has come, and what writing a piece of the construction leaves.
-use Prim.Native.Nat.{ℕ, _+_, _*_, _/_, _%_}
+use Prim.Native.Nat.{ℕ, _+_, _-_, _*_, _/_, _%_, _≤_}
 use mathlib.Core.Path.{_≡_}
 use mathlib.Core.List.{List, [], _∷_}
+use lib.ListN.{length}
+use lib.Dec.{eqb}
+use Rattle.wire.specs.Limits.{mostGates}
 use Rattle.gate.specs.declared.gates.Gate.{Gate}
-use Rattle.areas.specs.AreaGates.{Stored}
+use Rattle.gate.specs.Running.{uncompute}
+use Rattle.areas.specs.AreaGates.{gatesFrom, Stored}
+use Rattle.appending.specs.Reversing.{Reversible}
 use Rattle.node.specs.Exprs.{Expr}
 use Rattle.construction.specs.Pools.{Pool, lowestFree}
 use Rattle.construction.specs.Construction.{Built, build}
 use Rattle.construction.specs.Steps.{Reached}
-
--- how many numbers a line can have, which is written in 16 bits
-abbrev pub lineNumbers : ℕ
-lineNumbers = 65536
+use Rattle.pool.specs.LinePools.{lineNumbers}
 
 -- how far writing has come, in one number: so many gates are written, and f is the lowest free line
 abbrev pub packed : ℕ → ℕ → ℕ
@@ -31,3 +33,19 @@ does (tree e t) q = build e t q
 pub record Wrote (piece : Piece) (k f r : ℕ) (old new : List ℕ) : Type 0 where
   pub stores : (q : Pool) → Reached q → lowestFree q ≡ f → Stored (does piece q .gates) k (r / lineNumbers) old new
   pub leaves : (q : Pool) → Reached q → lowestFree q ≡ f → lowestFree (does piece q .pool) ≡ r % lineNumbers
+
+-- where p says how far writing has come with the gate of an AND, the gates before it, from gate k on
+abbrev pub madeSince : List ℕ → ℕ → ℕ → List Gate
+madeSince area k p = gatesFrom area k (p / lineNumbers - 1 - k)
+
+-- these can be undone behind it, the line out being none of their targets, and f was the lowest free line before them
+pub record Cleanable (area : List ℕ) (k p f out : ℕ) : Type 0 where
+  pub after : 1 ≤ p / lineNumbers
+  pub reversible : Reversible area k (p / lineNumbers - 1) (p / lineNumbers) out
+  pub few : p / lineNumbers + length (uncompute (eqb out) (madeSince area k p)) ≤ mostGates
+  pub taken : f ≤ p % lineNumbers
+
+-- so they are: r says how far writing has come then, and f is the lowest free line again
+pub record CleanedUp (k p f out r : ℕ) (old new : List ℕ) : Type 0 where
+  pub stored : Stored (uncompute (eqb out) (madeSince old k p)) (p / lineNumbers) (r / lineNumbers) old new
+  pub freed : r % lineNumbers ≡ f

@@ -2,15 +2,17 @@
 use Prim.Native.Nat.{ℕ, _+_, _-_, _/_, _<_, _≤_}
 use native.Mathlib.Omega.{arith}
 use mathlib.Core.Path.{_≡_, sym, ap, ap₂, _∙_}
-use mathlib.Core.List.{List}
+use mathlib.Core.List.{List, []}
 use lib.ListN.{length, length-append}
 use lib.Dec.{eqb}
 use Rattle.gate.specs.declared.gates.Gate.{Gate}
+use Rattle.gate.specs.Gates.{WellFormed, All}
 use Rattle.gate.specs.Running.{uncompute}
+use Rattle.circuit.specs.Format.{fileLength}
 use Rattle.node.specs.Exprs.{Expr}
 use Rattle.node.specs.Nodes.{nodesIn}
 use Rattle.node.proofs.TreeLaws.{trees-below}
-use Rattle.areas.proofs.WriterLaws.{put-length}
+use Rattle.areas.proofs.WriterLaws.{put-length, put-none}
 use Rattle.construction.specs.Construction.{share}
 use Rattle.construction.specs.Pools.{allFree}
 use Rattle.construction.specs.Steps.{builtCount, shareCount}
@@ -21,10 +23,11 @@ use Rattle.construction.proofs.PoolLaws.{share-gates, tree-lines}
 use Rattle.program.specs.Tables.{treeIn}
 use Rattle.areas.specs.AreaGates.{putGates, gatesFrom, Stored}
 use Rattle.appending.specs.Reversing.{InOrder, Reversible}
-use Rattle.progress.specs.Progress.{lineNumbers, tree, Wrote}
+use Rattle.pool.specs.LinePools.{lineNumbers}
+use Rattle.progress.specs.Progress.{tree, Wrote}
 use Rattle.construct.specs.Writing.{Room}
-use Rattle.areas.proofs.AreaLaws.{put-back, stored-then}
-use Rattle.appending.proofs.CopyLaws.{put-order}
+use Rattle.areas.proofs.AreaLaws.{stored-then}
+use Rattle.appending.proofs.StoredLaws.{stored-back, stored-order}
 use Rattle.progress.proofs.ProgressLaws.{by-numbers}
 
 -- building takes no more gates than the share
@@ -72,22 +75,25 @@ module _ {nodes : List ℕ} {i t k f : ℕ} {area : List ℕ} (r : Room nodes i 
     built-to : to ≡ k + length built
     built-to = by-numbers b .stored .count-to
 
+    -- with nothing behind them
+    area-is : area₁ ≡ putGates (putGates area k built) (k + length built) []
+    area-is = by-numbers b .stored .area-to ∙ sym (put-none (putGates area k built) (k + length built))
+
+    built-formed : All (WellFormed lineNumbers) built
+    built-formed = build-formed (r .valid .inputs) (treeIn nodes i) t f lineNumbers share-apart
+
+    built-room : fileLength (k + length built) ≤ length area
+    built-room = omega (arith, r .room, share-parts)
+
     -- read back
     built-back : gatesFrom area₁ k (to - k) ≡ built
     built-back =
         let n : to - k ≡ length built = omega (arith, built-to) in
-        ap₂ (λ (l : List ℕ) (m : ℕ). gatesFrom l k m) (by-numbers b .stored .area-to) n
-        ∙ put-back lineNumbers (omega arith) area k built (build-formed (r .valid .inputs) (treeIn nodes i) t f lineNumbers share-apart)
-        (omega (arith, r .room, share-parts))
+        ap₂ (λ (l : List ℕ) (m : ℕ). gatesFrom l k m) area-is n ∙ stored-back lineNumbers (omega arith) area k built [] built-formed built-room
 
     -- they stand in order
     built-order : (j : ℕ) → j < to → k ≤ j → InOrder area₁ j
-    built-order j h q =
-        let at : k + (j - k) ≡ j = omega arith in
-        let stored : InOrder (putGates area k built) (k + (j - k)) =
-        put-order lineNumbers (omega arith) area k built (build-formed (r .valid .inputs) (treeIn nodes i) t f lineNumbers share-apart)
-        (omega (arith, r .room, share-parts)) (j - k) (omega (arith, built-to)) in
-        rw (by-numbers b .stored .area-to, ← at) stored
+    built-order j h q = rw area-is (stored-order lineNumbers (omega arith) area k built [] built-formed built-room j (omega (arith, built-to)) q)
 
     -- there is room to write them again, if no more are written than where the target is left out
     pub reverse-room : {out : ℕ} → length (uncompute (eqb out) built) ≤ length (uncompute (eqb t) built) → Reversible area₁ k to to out

@@ -9,7 +9,7 @@ use Rattle.program.specs.Reading.{outputAt}
 use Rattle.program.specs.Tables.{treesIn}
 use Rattle.construction.specs.Construction.{linesNeeded}
 use Rattle.construction.specs.Steps.{sharesCount}
-use Rattle.progress.specs.Progress.{lineNumbers}
+use Rattle.pool.specs.LinePools.{lineNumbers}
 
 -- there are lines and room for the shares of all outputs over n inputs
 pub record CircuitRoom (nodes outputs : List ℕ) (n : ℕ) (area : List ℕ) : Type 0 where

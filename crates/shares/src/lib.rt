@@ -4,8 +4,9 @@ use appending::reverser::append_reversed;
 use areas::writer::write_head;
 use circuit::reader::CircuitHead;
 use construct::builder::build;
+use pool::LINE_NUMBERS;
+use pool::LinePool;
 use program::reader::output_at;
-use progress::LINE_NUMBERS;
 ghost use mathlib.Core.Path.{_≡_};
 ghost use lib.Seq.{sets};
 ghost use Rattle.circuit.specs.Circuits.{InRange};
@@ -19,19 +20,19 @@ ghost use Rattle.construct.specs.Writing.{Room};
 ghost use Rattle.shares.specs.Sharing.{CircuitRoom};
 
 // Writes the share of node i with this target, from gate `gates` on; the number of gates then. The
-// lines that it took are free again, so that the next share starts with the same free line.
+// lines that it took are free again, so that the next share starts with the same pool.
 fn write_share(
     nodes: &[u8],
     i: usize,
     target: u16,
     gates: usize,
-    free: usize,
+    pool: LinePool,
     area: &mut [u8],
 ) -> usize
-    requires { ⌜ Room (now nodes) i target gates free (shareCount 1 (treeIn (now nodes) i)) (now area) ⌝ }
-    ensures { λ r. ⌜ Stored (share (treeIn (now (nodes .entry)) i) target (allFree free) .gates) gates r (now (area .entry)) (now (area .exit)) ⌝ }
+    requires { ⌜ Room (now nodes) i target gates (pool .free) (shareCount 1 (treeIn (now nodes) i)) (now area) ⌝ }
+    ensures { λ r. ⌜ Stored (share (treeIn (now (nodes .entry)) i) target (allFree (pool .free)) .gates) gates r (now (area .entry)) (now (area .exit)) ⌝ }
 {
-    let to = build(nodes, i, target, gates, free, area) / LINE_NUMBERS;
+    let to = build(nodes, i, target, gates, pool, area) / LINE_NUMBERS;
     append_reversed(area, gates, to, to, target)
 }
 
@@ -41,11 +42,12 @@ fn write_shares(nodes: &[u8], outputs: &[u8], inputs: usize, area: &mut [u8]) ->
     ensures { λ r. ⌜ Stored (circuitGates inputs (treesIn (now (nodes .entry)) (now (outputs .entry)))) 0 r (now (area .entry)) (now (area .exit)) ⌝ }
 {
     let free = inputs + outputs.len() / 2;
+    let pool = LinePool { free };
     let mut gates = 0;
     let mut k = 0;
     while k < outputs.len() / 2 {
         let target = (inputs + k) as u16;
-        gates = write_share(nodes, output_at(outputs, k), target, gates, free, area);
+        gates = write_share(nodes, output_at(outputs, k), target, gates, pool, area);
         k += 1;
     }
     gates

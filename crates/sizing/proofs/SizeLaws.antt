@@ -3,7 +3,7 @@ use Prim.Native.Nat.{ℕ, _+_, _/_, _<_, _≤_}
 use native.Mathlib.Omega.{arith}
 use native.Mathlib.Nat.{add-zero}
 use mathlib.Core.Path.{_≡_, refl, sym, ap, _∙_}
-use mathlib.Core.Bool.{true, false}
+use mathlib.Core.Bool.{Bool, true, false}
 use mathlib.Core.List.{List, [], _∷_, _++_, map, flatMap}
 use lib.ListN.{length, getD, length-map, List·getD-append}
 use lib.Dec.{leb}
@@ -78,9 +78,9 @@ module _ {ss : List ℕ} (a b : ℕ) {r : ℕ} (h : (a < length ss) × (b < leng
   unfolding treeOf size
   next-xor ts e = ap (λ (s : ℕ). s ∷ []) (sum ts e)
 
-  pub next-and : NextSize (And a b) ss r
+  pub next-and : (m : Bool) → NextSize (And m a b) ss r
   unfolding treeOf size
-  next-and ts e = ap (λ (s : ℕ). s ∷ []) (sum ts e)
+  next-and m ts e = ap (λ (s : ℕ). s ∷ []) (sum ts e)
 
 -- the test of the entry of output k, which names node i
 module _ (sizes outputs : List ℕ) (k : ℕ) {i : ℕ} (e : i ≡ outputAt outputs k) where

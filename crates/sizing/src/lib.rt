@@ -38,7 +38,7 @@ fn node_size(node: Node, sizes: &[u16]) -> u16
         Node::Input(_) => 1,
         Node::Not(a) => joined(sizes[a as usize], 0),
         Node::Xor(a, b) => joined(sizes[a as usize], sizes[b as usize]),
-        Node::And(a, b) => joined(sizes[a as usize], sizes[b as usize]),
+        Node::And(_, a, b) => joined(sizes[a as usize], sizes[b as usize]),
     }
 }
 

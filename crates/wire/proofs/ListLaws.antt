@@ -147,7 +147,7 @@ tabulate-at make k j d h =
     tabulateFrom-at make 0 k j d h ∙ ap make e
 
 -- lists made of the same entries are the same
-tabulateFrom-same : {A : Type 0} (f g : ℕ → A) (i k : ℕ) → ((j : ℕ) → i ≤ j → j < i + k → f j ≡ g j) → tabulateFrom f i k ≡ tabulateFrom g i k
+pub tabulateFrom-same : {A : Type 0} (f g : ℕ → A) (i k : ℕ) → ((j : ℕ) → i ≤ j → j < i + k → f j ≡ g j) → tabulateFrom f i k ≡ tabulateFrom g i k
 unfolding tabulateFrom
 tabulateFrom-same f g i zero h = refl
 tabulateFrom-same f g i (suc k) h = ap₂ _∷_ (h i (omega arith) (omega arith)) (tabulateFrom-same f g (suc i) k (λ j p q. h j (omega arith) (omega arith)))

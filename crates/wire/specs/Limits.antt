@@ -24,6 +24,10 @@ mostGates = 8000
 abbrev pub mostSize : ℕ
 mostSize = 16384
 
+-- the largest number of gates that the place of cause 11 shows as it is (02, A7)
+abbrev pub mostCounted : ℕ
+mostCounted = 3000000
+
 -- the largest number that a quote (02, A1) shows as it is
 abbrev pub mostQuoted : ℕ
 mostQuoted = 1000000

@@ -18,5 +18,8 @@ pub const MOST_GATES: usize = 8000;
 // The largest unfolded size of an output.
 pub const MOST_SIZE: u16 = 16384;
 
+// The largest number of gates that the place of cause 11 shows as it is.
+pub const MOST_COUNTED: usize = 3000000;
+
 // The largest number that a quote shows as it is.
 pub const MOST_QUOTED: u64 = 1000000;

@@ -2,7 +2,7 @@
 use Prim.Native.Nat.{ℕ, _<_}
 use native.Mathlib.Omega.{arith}
 use mathlib.Core.Path.{_≡_, refl, ap, _∙_}
-use mathlib.Core.Bool.{true}
+use mathlib.Core.Bool.{true, false}
 use mathlib.Core.List.{List, [], _∷_}
 use lib.ListN.{length}
 use Rattle.refusal.specs.Checks.{allBelow, lowestFrom}
@@ -12,14 +12,15 @@ use Rattle.wire.proofs.ListLaws.{tabulate-length, tabulate-at}
 use Rattle.circuit.specs.Circuits.{InRange}
 use Rattle.node.specs.declared.nodes.Node.the-variants.{Zero}
 use Rattle.node.specs.Exprs.{Expr, INPUT, AND, size}
-use Rattle.node.specs.Nodes.{nodeAt, nodesIn, nodeFits, operandsFit, TableOk}
+use Rattle.node.specs.Nodes.{nodeAt, nodesIn, nodeFits, markFits, operandsFit, TableOk}
 use Rattle.node.specs.Trees.{trees, treesFrom, treeOf}
 use Rattle.node.proofs.NodeLaws.{node-ok}
 use Rattle.construction.specs.Construction.{inputOf, linesNeeded}
 use Rattle.construction.proofs.Numbers.{operandLines, held, most, mostOf}
 use Rattle.construction.proofs.PoolLaws.{lines-needed}
 use Rattle.construction.specs.Counting.{gatesShown}
-use Rattle.construction.specs.Steps.{operandCount, sameInput, andCount, builtCount, undoneCount, shareCount, sharesCount}
+use Rattle.wire.specs.Shown.{shown}
+use Rattle.construction.specs.Steps.{operandCount, sameInput, andCount, cleaningCount, builtCount, undoneCount, shareCount, sharesCount}
 use Rattle.counting.specs.declared.Needs.{Needs}
 use Rattle.counting.specs.Counters.{AllCountable, Needed}
 use Rattle.program.specs.Tables.{treeIn, treesIn, Valid}
@@ -36,7 +37,7 @@ abbrev pub outputs : List ℕ
 outputs = 6 ∷ 0 ∷ []
 
 abbrev four : Expr
-four = AND (AND (AND (INPUT 0) (INPUT 1)) (INPUT 2)) (INPUT 3)
+four = AND false (AND false (AND false (INPUT 0) (INPUT 1)) (INPUT 2)) (INPUT 3)
 
 case-tree : treeIn nodes 6 ≡ four
 unfolding treeIn trees treesFrom treeOf nodeAt tabulateFrom
@@ -47,7 +48,7 @@ unfolding treesIn tabulateFrom
 case-trees = ap (λ (e : Expr). e ∷ []) case-tree
 
 in-order : allBelow (nodeFits 4 nodes) 7 ≡ true
-unfolding nodeFits operandsFit lowestFrom
+unfolding nodeFits markFits operandsFit lowestFrom
 in-order = refl
 
 ordered : TableOk 4 (nodesIn nodes)
@@ -60,7 +61,7 @@ unfolding mostOf most held operandLines inputOf
 case-lines = lines-needed 4 (treesIn nodes outputs) ∙ ap mostOf case-trees
 
 case-gates : sharesCount (treesIn nodes outputs) ≡ 5
-unfolding sharesCount shareCount builtCount undoneCount operandCount andCount sameInput inputOf
+unfolding sharesCount shareCount builtCount undoneCount operandCount andCount cleaningCount sameInput inputOf
 case-gates = ap sharesCount case-trees
 
 valid : Valid nodes 6
@@ -77,7 +78,7 @@ case-countable =
 
 -- its head's numbers fit their fields
 pub case-range : {r : Needs} → Needed (treesIn nodes outputs) r → InRange (record { inputs = 4; outputs = 1; work = r .lines; gates = r .gates })
-unfolding gatesShown
+unfolding gatesShown shown
 case-range n =
     record {
       inputs-most = omega arith;

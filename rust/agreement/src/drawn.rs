@@ -3,9 +3,9 @@
 use model::circuit::Circuit;
 use model::construct;
 
-use crate::bits;
 use crate::program::{self, and, input, not, xor, Node, Program, ONE, ZERO};
 use crate::random::Random;
+use crate::{bits, limits};
 
 /// The limits of 01.
 const MOST_GATES: usize = 8_000;
@@ -18,20 +18,35 @@ pub fn read(program: &Program) -> model::program::Program {
 }
 
 /// A random program: deep, or unfolding to many times its nodes, or wide, or close to its leaves, or
-/// any.
+/// any; every other time with marks.
 pub fn any(random: &mut Random) -> Program {
-    match random.below(9) {
+    let program = match random.below(9) {
         0 => chain(random),
         1 => doubled(random),
         2 => wide(random),
         3 => leafy(random),
-        _ => program::valid(random),
-    }
+        _ => return program::valid(random),
+    };
+    program::sometimes_marked(random, program)
 }
 
 /// A random program whose circuit a file can hold.
 pub fn accepted(random: &mut Random) -> Program {
     let program = any(random);
+    fitted(random, program)
+}
+
+/// A random program whose circuit a file can hold, with marks at some or all of its ANDs.
+pub fn marked(random: &mut Random) -> Program {
+    let (inputs, nodes) = (random.within(1..=6), random.within(8..=40));
+    let program = match random.below(4) {
+        0 => doubled(random),
+        1 => leafy(random),
+        2 => chain(random),
+        _ => program::of_size(random, inputs, 3, nodes),
+    };
+    let once_in = random.pick(&[1, 2, 3, 8]);
+    let program = program.with_marks(|| random.once_in(once_in));
     fitted(random, program)
 }
 
@@ -126,7 +141,21 @@ pub fn repeated(random: &mut Random) -> Program {
     }
     let last = nodes.len() - 1;
     let outputs: Vec<u16> = (0..6).map(|back| (last - back) as u16).collect();
-    Program::new(2, &nodes, &outputs)
+    program::sometimes_marked(random, Program::new(2, &nodes, &outputs))
+}
+
+/// Gates about 3,000,000 under marks, which refusal 11 shows exactly up to there, in one output or
+/// several.
+pub fn about_three_million(random: &mut Random) -> Program {
+    let mut rest = 3_000_000 + random.below(9) - 4;
+    let mut outputs = Vec::new();
+    for others in (1..=random.pick(&[0, 0, 1, 2, 5, 63])).rev() {
+        let gates = random.within(0..=2 * rest / (others + 1));
+        outputs.push(gates as u128);
+        rest -= gates;
+    }
+    outputs.push(rest as u128);
+    limits::of_marked_gates(&outputs)
 }
 
 /// 64 inputs and 64 outputs, with operands from anywhere.

@@ -39,17 +39,18 @@ impl Default for Fuzz {
 impl Fuzz {
     /// A random file: good, damaged, compiled, shaped, or shaped and damaged; of both formats.
     pub fn file(&self, random: &mut Random) -> Vec<u8> {
-        match random.below(17) {
+        match random.below(18) {
             0..=1 => program::valid(random).bytes(),
             2 => drawn::any(random).bytes(),
             3 => drawn::large(random).bytes(),
             4 => drawn::repeated(random).bytes(),
-            5..=6 => drawn::accepted(random).bytes(),
-            7..=9 => program::damaged(random),
-            10..=11 => circuit::valid(random).bytes(),
-            12..=13 => circuit::damaged(random),
-            14 => compiled(random),
-            15 => self.shaped(random),
+            5 => drawn::about_three_million(random).bytes(),
+            6..=7 => drawn::accepted(random).bytes(),
+            8..=10 => program::damaged(random),
+            11..=12 => circuit::valid(random).bytes(),
+            13..=14 => circuit::damaged(random),
+            15 => compiled(random),
+            16 => self.shaped(random),
             _ => {
                 let file = self.shaped(random);
                 bytes_damaged(random, file)
@@ -87,7 +88,12 @@ impl Fuzz {
 }
 
 fn programs_at_limits() -> Vec<Vec<u8>> {
-    let refused = [limits::a_gate_too_many(), limits::ands(1_026, true)];
+    let refused = [
+        limits::a_gate_too_many(),
+        limits::ands(1_026, true),
+        limits::nested_marks(1_025),
+        limits::of_marked_gates(&[46_875; 64]),
+    ];
     limits::accepted().iter().chain(&refused).map(|program| program.bytes()).collect()
 }
 

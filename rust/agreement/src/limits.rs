@@ -1,6 +1,6 @@
 //! Programs at the limits of compiling: gates, work lines, sizes, depth and the file itself.
 
-use crate::program::{and, input, not, xor, Node, Program};
+use crate::program::{and, input, marked, not, xor, Node, Program, ZERO};
 
 /// The programs here whose circuits a file can hold.
 pub fn accepted() -> Vec<Program> {
@@ -13,6 +13,11 @@ pub fn accepted() -> Vec<Program> {
         most_lines(),
         deepest(),
         longest_file(),
+        of_marked_gates(&[8_000]),
+        of_marked_gates(&[125; 64]),
+        nested_marks(10),
+        most_lines_marked(),
+        lines_taken_twice(),
     ]
 }
 
@@ -91,14 +96,87 @@ pub fn longest_file() -> Program {
     Program::new(64, &nodes, &outputs)
 }
 
+/// So many ANDs, each next one of the one before and an input, all marked: 2^(n + 1) - 3 gates with n
+/// of them, and a work line for each but the first.
+pub fn nested_marks(count: u16) -> Program {
+    ands(count, false).with_marks(|| true)
+}
+
+/// A program whose outputs have these numbers of gates, each as the XOR of nested marked ANDs. In a
+/// share, an AND has two times the gates of the one below it, and 3, so that few of them are needed.
+pub fn of_marked_gates(gates: &[u128]) -> Program {
+    let most = gates.iter().copied().max().unwrap_or(0);
+    let (mut nodes, ands) = nested_ands(most, 3);
+    let outputs: Vec<u16> = gates.iter().map(|count| sum_of(&mut nodes, &ands, *count)).collect();
+    Program::new(2, &nodes, &outputs)
+}
+
+/// A marked AND of an input and a node that is built with so many gates, which are there four times: a
+/// XOR of nested marked ANDs, each built with two times the gates of the one below it, and 1.
+pub fn marked_above(built: u128) -> Program {
+    let (mut nodes, ands) = nested_ands(built, 1);
+    let sum = sum_of(&mut nodes, &ands, built);
+    nodes.push(marked(sum, 0));
+    Program::new(2, &nodes, &[sum + 1])
+}
+
+/// Two inputs, ZERO, and nested marked ANDs. With the number of each, what it counts for: 1 the
+/// lowest, each next one twice the one before and so many more, up to the most.
+fn nested_ands(most: u128, more: u128) -> (Vec<Node>, Vec<(u16, u128)>) {
+    let mut nodes = vec![input(0), input(1), ZERO, marked(0, 1)];
+    let mut ands = vec![(3, 1)];
+    while let Some((last, count)) = ands.last().copied() {
+        if 2 * count + more > most {
+            break;
+        }
+        nodes.push(marked(last, last % 2));
+        ands.push((last + 1, 2 * count + more));
+    }
+    (nodes, ands)
+}
+
+/// Adds the XOR of ANDs that count for so much together, and gives the number of its node.
+fn sum_of(nodes: &mut Vec<Node>, ands: &[(u16, u128)], total: u128) -> u16 {
+    const NOTHING: u16 = 2;
+    let (mut sum, mut rest) = (NOTHING, total);
+    for (and, count) in ands.iter().rev() {
+        while *count <= rest {
+            nodes.push(xor(sum, *and));
+            sum = nodes.len() as u16 - 1;
+            rest -= count;
+        }
+    }
+    sum
+}
+
+/// 1,152 lines with a marked AND at the top of the last output's 1,025, which frees all its lines.
+pub fn most_lines_marked() -> Program {
+    let mut program = most_lines();
+    program.nodes[1_088].mark = 1;
+    program
+}
+
+/// The XOR of the last of 1,000 ANDs with itself, marked: its 999 lines are taken twice, one time after
+/// the other. Without the mark they are 1,998.
+pub fn lines_taken_twice() -> Program {
+    let mut nodes = ands(1_000, true).nodes;
+    nodes[1_063].mark = 1;
+    nodes.push(xor(1_063, 1_063));
+    Program::new(64, &nodes, &[1_064])
+}
+
 #[cfg(test)]
 mod tests {
     use super::*;
     use model::construct;
 
+    fn read(program: &Program) -> model::program::Program {
+        model::program::read(&program.bytes()).expect("a good program")
+    }
+
     /// The gates, the work lines and the size of the first output.
     fn measures(program: &Program) -> (usize, usize, usize) {
-        let program = model::program::read(&program.bytes()).expect("a good program");
+        let program = read(program);
         let circuit = construct::circuit(&program);
         let size = construct::size(&program.nodes, program.outputs[0]);
         (circuit.gates.len(), circuit.work, size)
@@ -121,5 +199,37 @@ mod tests {
         assert_eq!(measures(&largest_outputs(64)), (64 * 8_193, 0, 16_384));
         assert_eq!(measures(&longest_file()), (128, 0, 3));
         assert_eq!(longest_file().bytes().len(), 24_740);
+        for count in 1..=10 {
+            let (gates, lines, size) = ((2 << count) - 3, count - 1, 2 * count + 1);
+            assert_eq!(measures(&nested_marks(count as u16)), (gates, lines, size));
+        }
+        assert_eq!(measures(&most_lines_marked()).0, 63 + 4_097);
+        assert_eq!(measures(&most_lines_marked()).1, 1_024);
+        assert_eq!(measures(&lines_taken_twice()), (7_994, 999, 4_003));
+        let unmarked = lines_taken_twice().with_marks(|| false);
+        assert_eq!(measures(&unmarked), (3_998, 1_998, 4_003));
+    }
+
+    #[test]
+    fn marked_gates_are_as_many_as_asked_for() {
+        for gates in (0..200).chain([7_999, 8_000, 8_001]) {
+            let program = read(&of_marked_gates(&[gates, 3, gates]));
+            let shares = [0, 1, 2].map(|k| construct::share(&program, k).len() as u128);
+            assert_eq!(shares, [gates, 3, gates]);
+            let above = read(&marked_above(gates));
+            assert_eq!(construct::share(&above, 0).len() as u128, 4 * gates + 1);
+        }
+        for gates in [3_000_000, 3_000_001, 1 << 32, u64::MAX.into()] {
+            let program = read(&of_marked_gates(&[gates]));
+            assert_eq!(construct::gates_needed(&program) as u128, gates);
+        }
+        for gates in [749_999, 750_000, 1 << 30, 1 << 61] {
+            let program = read(&marked_above(gates));
+            assert_eq!(construct::gates_needed(&program) as u128, 4 * gates + 1);
+        }
+        for program in [of_marked_gates(&[1 << 66]), marked_above(1 << 64)].map(|p| read(&p)) {
+            assert_eq!(construct::gates_needed(&program), usize::MAX);
+            assert!(construct::size(&program.nodes, program.outputs[0]) < 6_000);
+        }
     }
 }

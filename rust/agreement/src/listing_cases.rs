@@ -6,7 +6,7 @@
 
 use std::path::PathBuf;
 
-use crate::program::{and, input, node, not, xor, Program, ONE, ZERO};
+use crate::program::{and, input, node, not, xor, Node, Program, ONE, ZERO};
 use crate::{limits, shaped};
 
 /// The grant of the listing program.
@@ -27,7 +27,7 @@ pub struct Case {
 
 /// Every case, in the order in which they are listed.
 pub fn all() -> Vec<Case> {
-    [refused_by_the_reader(), examples(), sizes(), limits(), long_inputs()]
+    [refused_by_the_reader(), examples(), marks(), sizes(), limits(), long_inputs()]
         .into_iter()
         .flatten()
         .collect()
@@ -63,6 +63,9 @@ fn refused_by_the_reader() -> Vec<Case> {
     let no_nodes = Program::new(2, &[], &[2]);
     let inputs_65 = Program::new(65, &[input(64)], &[0]);
     let bad_node = Program::new(2, &[input(0), input(1), and(0, 2), node(6, 0, 0)], &[2]);
+    let of_two = |node: Node| Program::new(2, &[input(0), input(1), node], &[2]);
+    let mark_on_xor = of_two(xor(0, 1).with_mark(1));
+    let mark_2 = of_two(and(0, 1).with_mark(2));
     let bad_output = Program::new(2, &[input(0), input(1), and(0, 1)], &[2, 3]);
     vec![
         case("empty", vec![], "refused 1 0"),
@@ -72,6 +75,8 @@ fn refused_by_the_reader() -> Vec<Case> {
         case("no_nodes", no_nodes.bytes(), "refused 3 0"),
         case("inputs_65", inputs_65.bytes(), "refused 4 0"),
         case("bad_node", bad_node.bytes(), "refused 5 2"),
+        case("mark_on_xor", mark_on_xor.bytes(), "refused 5 2"),
+        case("mark_2", mark_2.bytes(), "refused 5 2"),
         case("bad_output", bad_output.bytes(), "refused 6 1"),
     ]
 }
@@ -88,6 +93,20 @@ fn examples() -> Vec<Case> {
         case("zero", shaped::program::output_zero().bytes(), "lines 0 1 0 gates 0"),
         case("one", Program::new(0, &[ONE], &[0]).bytes(), "lines 0 1 0 gates 1"),
         case("three_outputs", three_outputs.bytes(), "lines 1 3 2 gates 9"),
+    ]
+}
+
+/// The XOR of two ANDs of three inputs without marks and with them, the AND of four inputs with marks
+/// one below the other, and a marked AND in each of three outputs.
+fn marks() -> Vec<Case> {
+    let two_ands = |are_marked| shaped::program::two_ands_of_three(are_marked).bytes();
+    let nested = shaped::program::and_of_four().with_marks(|| true);
+    let outputs = shaped::marks::of_several_outputs().program;
+    vec![
+        case("two_ands", two_ands(false), "lines 6 1 2 gates 6"),
+        case("two_ands_marked", two_ands(true), "lines 6 1 1 gates 10"),
+        case("nested_marks", nested.bytes(), "lines 4 1 2 gates 13"),
+        case("marked_outputs", outputs.bytes(), "lines 2 3 2 gates 38"),
     ]
 }
 
@@ -123,6 +142,7 @@ fn sizes() -> Vec<Case> {
 }
 
 fn limits() -> Vec<Case> {
+    let marked = |gates: &[u128]| limits::of_marked_gates(gates).bytes();
     vec![
         case("work_1024", limits::ands(1_025, false).bytes(), "lines 64 1 1024 gates 2049"),
         case("work_1025", limits::ands(1_026, false).bytes(), "refused 10 1025"),
@@ -130,6 +150,10 @@ fn limits() -> Vec<Case> {
         case("gates_8000", limits::most_gates().bytes(), "lines 1 1 0 gates 8000"),
         case("gates_8001", limits::a_gate_too_many().bytes(), "refused 11 8001"),
         case("gates_524352", limits::largest_outputs(64).bytes(), "refused 11 524352"),
+        case("gates_3000000", marked(&[46_875; 64]), "refused 11 3000000"),
+        case("gates_3000001", marked(&[46_875, 2_953_126]), "refused 11 3000001"),
+        case("gates_3000002", marked(&[3_000_002]), "refused 11 3000001"),
+        case("gates_over_64_bits", limits::nested_marks(1_025).bytes(), "refused 11 3000001"),
         case("outputs_64", limits::most_outputs().bytes(), "lines 64 64 62 gates 8000"),
         case("longest_file", limits::longest_file().bytes(), "lines 64 64 0 gates 128"),
     ]

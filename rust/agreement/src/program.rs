@@ -9,8 +9,8 @@ use crate::random::Random;
 pub struct Node {
     /// The kind, 0 to 5 if good.
     pub kind: u8,
-    /// The byte that has to be zero.
-    pub zero: u8,
+    /// The mark, 0, or 1 of an AND, if good.
+    pub mark: u8,
     /// The input's number or the first operand.
     pub a: u16,
     /// The second operand.
@@ -19,7 +19,7 @@ pub struct Node {
 
 /// A node from its kind and operands.
 pub const fn node(kind: u8, a: u16, b: u16) -> Node {
-    Node { kind, zero: 0, a, b }
+    Node { kind, mark: 0, a, b }
 }
 
 /// The constant 0.
@@ -45,13 +45,21 @@ pub const fn xor(a: u16, b: u16) -> Node {
 
 /// a AND b.
 pub const fn and(a: u16, b: u16) -> Node {
-    node(5, a, b)
+    node(AND, a, b)
 }
 
+/// a AND b, marked.
+pub const fn marked(a: u16, b: u16) -> Node {
+    and(a, b).with_mark(1)
+}
+
+/// The kind that can be marked.
+const AND: u8 = 5;
+
 impl Node {
-    /// The same with another byte in the place of the zero byte.
-    pub const fn with_zero_byte(mut self, byte: u8) -> Node {
-        self.zero = byte;
+    /// The same with this byte as its mark.
+    pub const fn with_mark(mut self, mark: u8) -> Node {
+        self.mark = mark;
         self
     }
 }
@@ -86,6 +94,14 @@ impl Program {
         self
     }
 
+    /// The same with the mark that each AND gets here, the lowest first.
+    pub fn with_marks(mut self, mut mark: impl FnMut() -> bool) -> Program {
+        for node in self.nodes.iter_mut().filter(|node| node.kind == AND) {
+            node.mark = u8::from(mark());
+        }
+        self
+    }
+
     /// The file laid open.
     pub fn layout(&self) -> Layout {
         let mut head = self.inputs.to_le_bytes().to_vec();
@@ -93,7 +109,7 @@ impl Program {
 
         let mut nodes = Vec::with_capacity(6 * self.nodes.len());
         for node in &self.nodes {
-            nodes.extend([node.kind, node.zero]);
+            nodes.extend([node.kind, node.mark]);
             nodes.extend(node.a.to_le_bytes());
             nodes.extend(node.b.to_le_bytes());
         }
@@ -135,11 +151,13 @@ pub fn every_table(length: u16) -> Vec<Vec<Node>> {
 fn longer_by_one(table: &[Node], i: u16) -> Vec<Vec<Node>> {
     let mut next = vec![ZERO, ONE, input(0), input(1)];
     next.extend((0..i).map(not));
-    next.extend((0..i).flat_map(|a| (0..i).flat_map(move |b| [xor(a, b), and(a, b)])));
+    let of_two = |a, b| [xor(a, b), and(a, b), marked(a, b)];
+    next.extend((0..i).flat_map(|a| (0..i).flat_map(move |b| of_two(a, b))));
     next.into_iter().map(|node| [table, &[node]].concat()).collect()
 }
 
-/// A random program that every check accepts: all kinds, nodes used more than once, mostly few of them.
+/// A random program that every check accepts: all kinds, nodes used more than once, mostly few of them,
+/// and every other time with marks.
 pub fn valid(random: &mut Random) -> Program {
     let inputs = match random.below(6) {
         0 => 0,
@@ -161,10 +179,20 @@ pub fn valid(random: &mut Random) -> Program {
         _ => random.within(1..=24),
     };
 
-    of_size(random, inputs, output_count, node_count)
+    let program = of_size(random, inputs, output_count, node_count);
+    sometimes_marked(random, program)
 }
 
-/// A random program of this size, with nodes of all kinds.
+/// The program as it is, or every other time with marks at some or all of its ANDs.
+pub fn sometimes_marked(random: &mut Random, program: Program) -> Program {
+    if random.once_in(2) {
+        return program;
+    }
+    let once_in = random.pick(&[1, 2, 4, 16, 64]);
+    program.with_marks(|| random.once_in(once_in))
+}
+
+/// A random program of this size, with nodes of all kinds and no marks.
 pub fn of_size(random: &mut Random, inputs: usize, outputs: usize, nodes: usize) -> Program {
     let table: Vec<Node> = (0..nodes).map(|index| valid_node(random, index, inputs)).collect();
     let outputs: Vec<u16> = (0..outputs).map(|_| operand(random, nodes)).collect();
@@ -245,7 +273,7 @@ fn damage_node(random: &mut Random, program: &mut Program) {
     let node = &mut program.nodes[i];
     match random.below(4) {
         0 => node.kind = random.pick(&[0, 1, 2, 3, 4, 5, 6, 17, 255]),
-        1 => node.zero = random.pick(&[1, 128, 255]),
+        1 => node.mark = random.pick(&[1, 1, 2, 128, 255]),
         2 => node.a = random.pick(&operands),
         _ => node.b = random.pick(&operands),
     }

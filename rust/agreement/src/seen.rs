@@ -1,7 +1,7 @@
 //! What a run of random programs has met, so that a test can fail where it was too little.
 
 use model::construct;
-use model::program::Node::{And, Input, Not, One, Xor, Zero};
+use model::program::Node::{And, Input, MarkedAnd, Not, One, Xor, Zero};
 use model::program::{Node, Program};
 
 /// Counts and largest numbers of a run.
@@ -27,6 +27,8 @@ pub struct Seen {
     pub deepest: usize,
     /// What the ANDs that are built were of.
     pub ands: Ands,
+    /// How those of them that are marked stood.
+    pub marks: Marks,
     /// Runs with the work lines zero at the start.
     pub runs_from_zero: u64,
     /// Runs with another start.
@@ -93,6 +95,40 @@ impl Ands {
     }
 }
 
+/// How many marked ANDs stood so.
+#[derive(Debug, Default, PartialEq, Eq)]
+pub struct Marks {
+    /// With no operand built, and so with nothing to undo.
+    pub of_inputs: u64,
+    /// With one operand built.
+    pub of_one: u64,
+    /// With both operands built.
+    pub of_two: u64,
+    /// With another marked AND below.
+    pub above_a_mark: u64,
+    /// With an AND below that is not marked.
+    pub above_an_and: u64,
+    /// As an operand of another AND.
+    pub operand: u64,
+}
+
+impl Marks {
+    fn count(&mut self, nodes: &[Node], a: usize, b: usize) {
+        match (nodes[a], nodes[b]) {
+            (Input(_), Input(_)) => self.of_inputs += 1,
+            (Input(_), _) | (_, Input(_)) => self.of_one += 1,
+            _ => self.of_two += 1,
+        }
+    }
+
+    /// Fails unless marked ANDs of each kind were met so often.
+    pub fn finish(&self, at_least: u64) {
+        let Marks { of_inputs, of_one, of_two, above_a_mark, above_an_and, operand } = self;
+        let counts = [of_inputs, of_one, of_two, above_a_mark, above_an_and, operand];
+        assert!(counts.iter().all(|count| **count >= at_least), "too few of a kind: {self:?}");
+    }
+}
+
 impl Seen {
     /// Counts a program whose circuit has so many gates and work lines.
     pub fn program(&mut self, program: &Program, gates: usize, work: usize) {
@@ -115,9 +151,17 @@ impl Seen {
 
     fn count_ands(&mut self, program: &Program) {
         let nodes = &program.nodes;
+        let below = below(nodes);
         for (i, built) in built(program).into_iter().enumerate() {
-            if let (true, And(a, b)) = (built, nodes[i]) {
+            if let (true, And(a, b) | MarkedAnd(a, b)) = (built, nodes[i]) {
                 self.ands.count(nodes, a, b);
+                let is_marked = |operand: &usize| matches!(nodes[*operand], MarkedAnd(..));
+                self.marks.operand += [a, b].iter().filter(|a| is_marked(a)).count() as u64;
+            }
+            if let (true, MarkedAnd(a, b)) = (built, nodes[i]) {
+                self.marks.count(nodes, a, b);
+                self.marks.above_a_mark += u64::from(below[i].marked);
+                self.marks.above_an_and += u64::from(below[i].unmarked);
             }
         }
     }
@@ -146,6 +190,7 @@ impl Seen {
             self.most_gates, self.most_work_lines, self.most_lines, self.largest_size, self.deepest
         );
         println!("{name}: {:?}", self.ands);
+        println!("{name}: {:?}", self.marks);
         println!(
             "{name}: {} runs with the work lines zero, {} others; {} values 0, {} values 1",
             self.runs_from_zero, self.other_runs, self.values[0], self.values[1]
@@ -164,7 +209,7 @@ fn built(program: &Program) -> Vec<bool> {
             match *node {
                 Zero | One | Input(_) => {}
                 Not(a) => built[a] = true,
-                Xor(a, b) | And(a, b) => (built[a], built[b]) = (true, true),
+                Xor(a, b) | And(a, b) | MarkedAnd(a, b) => (built[a], built[b]) = (true, true),
             }
         }
     }
@@ -178,10 +223,37 @@ fn depths(nodes: &[Node]) -> Vec<usize> {
         depths.push(match *node {
             Zero | One | Input(_) => 1,
             Not(a) => 1 + depths[a],
-            Xor(a, b) | And(a, b) => 1 + depths[a].max(depths[b]),
+            Xor(a, b) | And(a, b) | MarkedAnd(a, b) => 1 + depths[a].max(depths[b]),
         });
     }
     depths
+}
+
+/// Whether there is a marked AND below a node, and one that is not marked.
+#[derive(Clone, Copy, Default)]
+struct Below {
+    marked: bool,
+    unmarked: bool,
+}
+
+fn below(nodes: &[Node]) -> Vec<Below> {
+    let mut below: Vec<Below> = Vec::new();
+    for node in nodes {
+        // The operand itself counts as well.
+        let with = |a: usize| Below {
+            marked: below[a].marked || matches!(nodes[a], MarkedAnd(..)),
+            unmarked: below[a].unmarked || matches!(nodes[a], And(..)),
+        };
+        below.push(match *node {
+            Zero | One | Input(_) => Below::default(),
+            Not(a) => with(a),
+            Xor(a, b) | And(a, b) | MarkedAnd(a, b) => Below {
+                marked: with(a).marked || with(b).marked,
+                unmarked: with(a).unmarked || with(b).unmarked,
+            },
+        });
+    }
+    below
 }
 
 #[cfg(test)]
@@ -223,5 +295,28 @@ mod tests {
         assert_eq!(of(And(3, 4)), Ands { no_input: 1, not_of_input: 1, constant: 1, ..none() });
         // With the AND of two inputs that the XOR has below it.
         assert_eq!(of(And(6, 6)), Ands { no_input: 1, rising: 1, ..none() });
+        assert_eq!(of(MarkedAnd(0, 2)), of(And(0, 2)));
+    }
+
+    #[test]
+    fn marked_ands_are_counted() {
+        let of = |nodes: &[Node]| {
+            let mut seen = Seen::default();
+            let nodes = [&[Input(0), Input(1), Not(0)], nodes].concat();
+            let outputs = vec![nodes.len() - 1];
+            seen.program(&Program { inputs: 2, nodes, outputs }, 0, 0);
+            seen.marks
+        };
+        let none = Marks::default;
+        assert_eq!(of(&[And(0, 2)]), none());
+        assert_eq!(of(&[MarkedAnd(0, 1)]), Marks { of_inputs: 1, ..none() });
+        assert_eq!(of(&[MarkedAnd(0, 2)]), Marks { of_one: 1, ..none() });
+        assert_eq!(of(&[MarkedAnd(2, 2)]), Marks { of_two: 1, ..none() });
+        assert_eq!(of(&[MarkedAnd(2, 2), Not(0)]), none());
+        let above = Marks { of_inputs: 1, of_two: 1, above_a_mark: 1, ..none() };
+        assert_eq!(of(&[MarkedAnd(0, 0), Not(3), MarkedAnd(4, 2)]), above);
+        assert_eq!(of(&[MarkedAnd(0, 0), And(3, 3)]), Marks { of_inputs: 1, operand: 2, ..none() });
+        let above = Marks { of_one: 1, above_an_and: 1, ..none() };
+        assert_eq!(of(&[And(0, 0), MarkedAnd(3, 1)]), above);
     }
 }

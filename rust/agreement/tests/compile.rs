@@ -2,9 +2,9 @@
 
 use agreement::circuit::{cnot, not as flip, toffoli, Circuit};
 use agreement::compare::compile::{archive, compare, drawn as call, model, needs, random_list};
-use agreement::compare::compile::{Case, TOO_HIGH};
+use agreement::compare::compile::{Case, OVER, TOO_HIGH};
 use agreement::compare::{MOST_BYTES, NO_GATES};
-use agreement::program::{self, and, input, not, xor, Node, Program, ONE, ZERO};
+use agreement::program::{self, and, input, marked, not, xor, Node, Program, ONE, ZERO};
 use agreement::random::Random;
 use agreement::seen::Seen;
 use agreement::tally::Tally;
@@ -138,10 +138,10 @@ fn the_other_examples() {
     gives("output ONE", &one, &[1], &Circuit::new(0, 1, 0, &[flip(0)]));
 }
 
-/// Inputs, by one node or two, their NOTs, constants and ANDs, on either side.
+/// Inputs, by one node or two, their NOTs, constants and ANDs, on either side; and every kind of mark.
 #[test]
-fn every_kind_of_operand() {
-    for example in shaped::operands::all() {
+fn every_kind_of_operand_and_mark() {
+    for example in shaped::operands::all().into_iter().chain(shaped::marks::all()) {
         gives(example.name, &example.program, &sizes_of(&example.program), &example.circuit);
     }
 }
@@ -322,6 +322,116 @@ fn far_more_gates() {
     refuses("64 of them", &Program::new(1, &nodes, &outputs), 2, (11, 64 * gates));
 }
 
+/// Numbers of gates under marks: up to 3,000,000 the place is the number, of one output and of the
+/// sum of all, and above it is 3,000,001.
+#[test]
+fn three_million_gates() {
+    let of = limits::of_marked_gates;
+    gives_the_models("8,000 gates", &of(&[8_000]));
+    gives_the_models("8,000 gates in 64 outputs", &of(&[125; 64]));
+    refuses("8,001 gates", &of(&[8_001]), 1_024, (11, 8_001));
+    refuses("8,001 gates in 64 outputs", &of(&[&[125; 63][..], &[126]].concat()), 7, (11, 8_001));
+
+    for gates in [65_536, 1_000_000, 1_000_001, 1_000_002, 2_999_999, 3_000_000] {
+        in_several_outputs(gates, gates as u64);
+    }
+    for gates in [3_000_001, 3_000_002, 3_000_003, 4_000_000, 6_000_002] {
+        in_several_outputs(gates, OVER);
+    }
+    refuses("in 64 outputs", &of(&[46_875; 64]), 1_024, (11, 3_000_000));
+    let mut outputs = [46_875; 64];
+    for more in [0, 31, 63] {
+        outputs[more] = 46_874;
+        refuses("a gate fewer", &of(&outputs), 1_024, (11, 2_999_999));
+        outputs[more] = 46_876;
+        refuses("a gate more", &of(&outputs), 1_024, (11, OVER));
+        outputs[more] = 46_875;
+    }
+
+    // The last mark has four times the gates below it, and one.
+    let above = limits::marked_above;
+    refuses("2,999,997 gates", &above(749_999), 1_024, (11, 2_999_997));
+    refuses("3,000,001 gates", &above(750_000), 1_024, (11, OVER));
+    refuses("3,000,005 gates", &above(750_001), 1_024, (11, OVER));
+    let mut and_three = above(749_999);
+    and_three.nodes.extend((0..3).map(|more| not(and_three.outputs[0] + more)));
+    and_three.outputs[0] += 3;
+    refuses("3,000,000 gates", &and_three, 1_024, (11, 3_000_000));
+}
+
+/// So many gates in one output, and parted among two.
+fn in_several_outputs(gates: u128, place: u64) {
+    let parts = [
+        vec![gates],
+        vec![gates, 0],
+        vec![gates / 3, gates - gates / 3],
+        vec![1, gates - 1],
+        vec![gates - 1, 1],
+    ];
+    for part in parts {
+        refuses("so many gates", &limits::of_marked_gates(&part), 1_024, (11, place));
+    }
+}
+
+/// Some of these are few in 32 or 64 bits: the gates of an output, those of a node below it, or those
+/// of all outputs.
+#[test]
+fn numbers_of_gates_that_overflow() {
+    let of = limits::of_marked_gates;
+    for power in [31, 32, 33, 62, 63, 64, 65] {
+        for gates in [(1 << power) - 1, 1 << power, (1 << power) + 1, (1 << power) + 5] {
+            refuses("one output", &of(&[gates]), 1_024, (11, OVER));
+            refuses("two outputs", &of(&[gates; 2]), 1_024, (11, OVER));
+            refuses("a mark above", &limits::marked_above(gates), 1_024, (11, OVER));
+        }
+        refuses("64 outputs", &of(&[1 << (power - 6); 64]), 1_024, (11, OVER));
+        refuses("two outputs", &of(&[(1 << power) - 7, 7]), 1_024, (11, OVER));
+    }
+    for power in [29, 30, 60, 61] {
+        refuses("a mark above", &limits::marked_above(1 << power), 1_024, (11, OVER));
+    }
+
+    for marks in [21, 30, 31, 32, 61, 62, 63, 64, 65, 1_025] {
+        let nested = limits::nested_marks(marks);
+        refuses("nested marks", &nested, 1_024, (11, OVER));
+        let outputs = [nested.outputs[0]; 64];
+        refuses("64 outputs", &Program::new(64, &nested.nodes, &outputs), 1_024, (11, OVER));
+    }
+    // Of a node with itself, 13 deep, of size 16,383: 178,956,969 gates and 26 lines.
+    let mut nodes = vec![ONE];
+    nodes.extend((0..14).map(|before| marked(before, before)));
+    refuses("both operands", &Program::new(0, &nodes, &[13]), 26, (11, OVER));
+    refuses("both operands, 10", &Program::new(0, &nodes, &[13]), 25, (10, 26));
+    refuses("both operands, 8", &Program::new(0, &nodes, &[13, 14]), 25, (8, 1));
+}
+
+/// The lines needed are the most that are in use together, within an output and of all of them.
+#[test]
+fn work_lines_under_marks() {
+    gives_the_models("999 lines, twice", &limits::lines_taken_twice());
+    refuses("a line fewer", &limits::lines_taken_twice(), 998, (10, 999));
+    let unmarked = limits::lines_taken_twice().with_marks(|| false);
+    refuses("without the mark", &unmarked, 1_024, (10, 1_998));
+    gives_the_models("1,024 lines", &limits::most_lines_marked());
+    refuses("a line fewer", &limits::most_lines_marked(), 1_023, (10, 1_024));
+    refuses("1,025 lines", &limits::nested_marks(1_026), 1_024, (10, 1_025));
+    for grant in [0, 1, 1_023] {
+        refuses("1,024 lines of 1,025 marks", &limits::nested_marks(1_025), grant, (10, 1_024));
+    }
+    for grant in TOO_HIGH {
+        refuses("9 before 10 and 11", &limits::nested_marks(1_026), grant, (9, 0));
+    }
+    // 1,023 lines are given back before 1,023 more are taken, beside one that stays in use.
+    let mut program = limits::ands(1_024, false);
+    program.nodes[1_087].mark = 1;
+    program.nodes.extend([and(1_087, 1_086), and(1_086, 1_087)]);
+    program.outputs = vec![1_088];
+    gives_the_models("an AND of both", &program);
+    refuses("an AND of both", &program, 1_023, (10, 1_024));
+    program.outputs = vec![1_089];
+    refuses("in the other order", &program, 1_024, (10, 2_047));
+}
+
 #[test]
 fn the_most_work_lines() {
     for input_first in [false, true] {
@@ -468,7 +578,7 @@ fn each_byte_of_nor_changed() {
     tally.finish(68 * 256 * 4, &[1, 2, 3, 4, 5, 6, 10, 11]);
 }
 
-/// Every table of four nodes over two inputs, each of them an output: 9,800 programs.
+/// Every table of four nodes over two inputs, each of them an output: 19,584 programs.
 #[test]
 fn every_small_table() {
     let mut tally = Tally::new("compile, every small table");
@@ -481,7 +591,7 @@ fn every_small_table() {
             assert_eq!(short, Err((10, work)), "{nodes:?}");
         }
     }
-    tally.finish(4 * 7 * 14 * 25, &[]);
+    tally.finish(4 * 8 * 18 * 34, &[]);
 }
 
 #[test]
@@ -508,6 +618,7 @@ fn random_and_damaged_cases() {
     assert!(seen.most_gates > 7_000, "no circuit with many gates");
     assert!(seen.most_work_lines > 1_000, "no circuit with many work lines");
     seen.ands.finish(200);
+    seen.marks.finish(200);
 }
 
 fn count(seen: &mut Seen, case: &Case, length: usize) {
@@ -518,10 +629,11 @@ fn count(seen: &mut Seen, case: &Case, length: usize) {
 
 /// Mostly a good file; then mostly a list, a grant and an area that are enough.
 fn random_case(random: &mut Random) -> Case {
-    let file = match random.below(8) {
+    let file = match random.below(9) {
         0..=1 => program::damaged(random),
         2 => drawn::any(random).bytes(),
         3 => drawn::large(random).bytes(),
+        4 => drawn::about_three_million(random).bytes(),
         _ => drawn::accepted(random).bytes(),
     };
     call(random, file)

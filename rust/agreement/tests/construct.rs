@@ -11,7 +11,7 @@ use agreement::seen::Seen;
 use agreement::{bits, hex, limits, repository, shaped};
 use model::circuit::{self, Circuit, Gate};
 use model::construct;
-use model::program::Node::{self, And, Input, Not, One, Xor, Zero};
+use model::program::Node::{self, And, Input, MarkedAnd, Not, One, Xor, Zero};
 
 /// Prints the run, and fails unless it met enough of everything.
 fn finish(seen: &Seen, name: &str, at_least: u64) {
@@ -24,6 +24,7 @@ fn finish(seen: &Seen, name: &str, at_least: u64) {
     assert!(seen.largest_size > 5_000, "no large node");
     assert!(seen.deepest > 3_000, "no deep node");
     seen.ands.finish(at_least / 20);
+    seen.marks.finish(at_least / 20);
 }
 
 /// Holds the lines after the shares of the first j outputs, for every j, to what 01 says of them.
@@ -93,6 +94,8 @@ fn at_the_limits() {
     }
     check("two work lines an AND", limits::ands_of_nots(512), 3_075, 1_024, 1_538);
     check("4,095 NOTs", limits::deepest(), 4_096, 0, 4_096);
+    check("8,000 gates by marks", limits::of_marked_gates(&[8_000]), 8_000, 10, 127);
+    check("a mark above 1,024 work lines", limits::lines_taken_twice(), 7_994, 999, 4_003);
 
     let mut chain = shaped::program::xor_chain();
     chain.outputs = vec![14];
@@ -128,29 +131,40 @@ fn controls(gate: &Gate) -> Vec<usize> {
 /// on the lines that the first has left free.
 fn from_operands(nodes: &[Node], i: usize, t: usize, f: usize) -> Vec<Gate> {
     let build = |i, t, f| construct::build(nodes, i, t, f);
-    let lines = |i| construct::work_lines(nodes, i);
-    // The line of an operand of AND, its gates, and the lowest line that is then free.
-    let control = |operand: usize, f: usize| match nodes[operand] {
-        Input(j) => (j, vec![], f),
-        _ => (f, build(operand, f, f + 1), f + 1 + lines(operand)),
-    };
     match nodes[i] {
         Zero => vec![],
         One => vec![Gate::Not(t)],
         Input(j) => vec![Gate::Cnot(j, t)],
         Not(a) => [vec![Gate::Not(t)], build(a, t, f)].concat(),
-        Xor(a, b) => [build(a, t, f), build(b, t, f + lines(a))].concat(),
-        And(a, b) => {
-            let (first, of_first, free) = control(a, f);
-            let (second, of_second, _) = control(b, free);
-            let last = if first == second {
-                Gate::Cnot(first, t)
-            } else {
-                Gate::Toffoli(first.min(second), first.max(second), t)
-            };
-            [of_first, of_second, vec![last]].concat()
+        Xor(a, b) => {
+            let kept = construct::line_counts(nodes)[a].kept;
+            [build(a, t, f), build(b, t, f + kept)].concat()
+        }
+        And(a, b) | MarkedAnd(a, b) => {
+            let (operands, last) = of_and(nodes, (a, b), t, f);
+            let undone = operands.iter().rev().copied();
+            let undone = undone.filter(|_| matches!(nodes[i], MarkedAnd(..))).collect();
+            [operands.clone(), vec![last], undone].concat()
         }
     }
+}
+
+/// The gates of both operands of an AND, and its own.
+fn of_and(nodes: &[Node], (a, b): (usize, usize), t: usize, f: usize) -> (Vec<Gate>, Gate) {
+    let kept = construct::line_counts(nodes);
+    // The line of an operand, its gates, and the lowest line that is then free.
+    let control = |operand: usize, f: usize| match nodes[operand] {
+        Input(j) => (j, vec![], f),
+        _ => (f, construct::build(nodes, operand, f, f + 1), f + 1 + kept[operand].kept),
+    };
+    let (first, of_first, free) = control(a, f);
+    let (second, of_second, _) = control(b, free);
+    let last = if first == second {
+        Gate::Cnot(first, t)
+    } else {
+        Gate::Toffoli(first.min(second), first.max(second), t)
+    };
+    ([of_first, of_second].concat(), last)
 }
 
 /// The file that the archive's undoing writes of these gates with the target chosen.
@@ -220,12 +234,16 @@ fn checked_share(
     share
 }
 
-/// The lines taken are the lowest ones, each the control of one gate that builds, and no other line
-/// but an input is a control. So each operand of AND that is no input has a line of its own.
+/// The lines taken are the lowest ones, and no other line but an input is a control. Without marks
+/// each is the control of one gate that builds, so each operand of AND that is no input has a line of
+/// its own.
 fn check_lines(program: &model::program::Program, k: usize, build: &[Gate], share: &[Gate]) {
     let mut taken: Vec<usize> =
         build.iter().flat_map(controls).filter(|line| *line >= program.inputs).collect();
     taken.sort_unstable();
+    if has_marks(program) {
+        taken.dedup();
+    }
     let first = program.inputs + program.outputs.len();
     let lowest = first..first + construct::work_lines(&program.nodes, program.outputs[k]);
     assert!(taken.into_iter().eq(lowest.clone()), "the lines taken, {program:?}");
@@ -236,6 +254,11 @@ fn check_lines(program: &model::program::Program, k: usize, build: &[Gate], shar
     }
 }
 
+fn has_marks(program: &model::program::Program) -> bool {
+    program.nodes.iter().any(|node| matches!(node, MarkedAnd(..)))
+}
+
+/// The bound of gates is for programs without marks.
 fn check_bounds(
     reached: &mut Reached,
     program: &model::program::Program,
@@ -246,13 +269,15 @@ fn check_bounds(
     let work = construct::work_lines(&program.nodes, i);
     assert_eq!(size, construct::sizes(&program.nodes)[i], "{program:?}");
     assert!(work < size, "{work} work lines, size {size}, {program:?}");
-    assert!(gates < 2 * size, "{gates} gates, size {size}, {program:?}");
     reached.lines += u64::from(size > 1 && work == size - 1);
-    reached.gates += u64::from(size > 1 && gates == 2 * size - 1);
+    if !has_marks(program) {
+        assert!(gates < 2 * size, "{gates} gates, size {size}, {program:?}");
+        reached.gates += u64::from(size > 1 && gates == 2 * size - 1);
+    }
 }
 
-/// The examples of 01 and every kind of operand, gate by gate as they are written out beside the
-/// circuit files.
+/// The examples of 01, every kind of operand and every kind of mark, gate by gate as they are written
+/// out beside the circuit files.
 #[test]
 fn the_examples() {
     let check = |name: &str, program: Program, expected: Vec<u8>| {
@@ -263,7 +288,7 @@ fn the_examples() {
     check("NOR", shaped::program::nor(), shaped::circuit::nor().bytes());
     let three = shaped::program::and_of_three();
     check("AND of three inputs", three, shaped::circuit::and_of_three().bytes());
-    for example in shaped::operands::all() {
+    for example in shaped::operands::all().into_iter().chain(shaped::marks::all()) {
         check(example.name, example.program, example.circuit.bytes());
     }
 

@@ -171,6 +171,7 @@ fn the_examples() {
         shaped::program::output_zero(),
     ];
     examples.extend(shaped::operands::all().into_iter().map(|example| example.program));
+    examples.extend(shaped::marks::all().into_iter().map(|example| example.program));
     all_hold("end to end, examples", 0x6578_616d, &examples);
 }
 
@@ -245,4 +246,21 @@ fn random_programs() {
     assert!(seen.most_lines > 1_000 && seen.most_gates > 7_000, "no large circuit");
     assert!(written > 10_000, "too few shares with work lines");
     seen.ands.finish(200);
+    seen.marks.finish(200);
+}
+
+/// Marks at some or all of the ANDs, in most programs one above another.
+#[test]
+fn random_markings() {
+    let mut random = Random::new(0x6d61_726b);
+    let mut seen = Seen::default();
+    let mut written = 0;
+    for _ in 0..2_000 {
+        let program = drawn::marked(&mut random);
+        written += holds(&mut random, &mut seen, program);
+    }
+    finish(&seen, written, "end to end, marks");
+    assert!(seen.runs_from_zero > 50_000 && seen.other_runs > 50_000, "too few runs");
+    assert!(seen.values.iter().all(|count| *count > 10_000), "too few values of one kind");
+    seen.marks.finish(300);
 }

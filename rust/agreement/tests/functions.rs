@@ -8,7 +8,7 @@ use agreement::listing_cases::GRANT;
 use agreement::random::Random;
 use agreement::{bits, repository};
 use model::listing::{listing, text};
-use table::functions::{adder, less};
+use table::functions::{adder, and, less, Form};
 
 /// A function: its name, the number of its inputs and outputs, and its outputs as the bits of a
 /// number, the first output lowest, for its inputs as the bits of a number.
@@ -19,15 +19,32 @@ struct Function {
     value: fn(u64) -> u64,
 }
 
-const FUNCTIONS: [Function; 7] = [
+const FUNCTIONS: [Function; 11] = [
     Function { name: "and", inputs: 2, outputs: 1, value: |x| u64::from(x == 3) },
     Function { name: "nor", inputs: 2, outputs: 1, value: |x| u64::from(x == 0) },
     Function { name: "majority", inputs: 3, outputs: 1, value: |x| u64::from(x.count_ones() >= 2) },
     Function { name: "full_adder", inputs: 3, outputs: 2, value: |x| u64::from(x.count_ones()) },
     Function { name: "adder8", inputs: 16, outputs: 9, value: |x| (x & 0xff) + (x >> 8) },
-    Function { name: "adder32", inputs: 64, outputs: 33, value: |x| (x & 0xffff_ffff) + (x >> 32) },
-    Function { name: "less8", inputs: 16, outputs: 1, value: |x| u64::from((x & 0xff) < (x >> 8)) },
+    Function { name: "adder32", inputs: 64, outputs: 33, value: sum_of_32_bits },
+    Function { name: "adder32_marked", inputs: 64, outputs: 33, value: sum_of_32_bits },
+    Function { name: "less8", inputs: 16, outputs: 1, value: is_less_of_8_bits },
+    Function { name: "less8_marked", inputs: 16, outputs: 1, value: is_less_of_8_bits },
+    Function { name: "and32", inputs: 32, outputs: 1, value: |x| u64::from(x == 0xffff_ffff) },
+    Function {
+        name: "and32_marked",
+        inputs: 32,
+        outputs: 1,
+        value: |x| u64::from(x == 0xffff_ffff),
+    },
 ];
+
+fn sum_of_32_bits(x: u64) -> u64 {
+    (x & 0xffff_ffff) + (x >> 32)
+}
+
+fn is_less_of_8_bits(x: u64) -> u64 {
+    u64::from((x & 0xff) < (x >> 8))
+}
 
 fn file(name: &str, extension: &str) -> Vec<u8> {
     repository::read(format!("examples/functions/{name}.{extension}"))
@@ -48,6 +65,8 @@ fn inputs_to_try(random: &mut Random, count: usize) -> Vec<u64> {
     let low = u64::MAX >> (64 - half);
     // A carry through every bit, equal numbers, and numbers that differ by one.
     let mut numbers = vec![0, ones, low, ones ^ low, low | 1 << half, 1 | low << half];
+    // One input at 0.
+    numbers.extend((0..count).map(|at| ones ^ 1 << at));
     for _ in 0..2_000 {
         let (any, near) = (random.number() & low, random.below(3) as u64);
         numbers.push(random.number() & ones);
@@ -65,9 +84,45 @@ fn the_folder_holds_these_functions() {
 }
 
 #[test]
-fn the_tables_of_numbers_are_those_of_the_tool() {
-    for (name, text) in [("adder8", adder(8)), ("adder32", adder(32)), ("less8", less(8))] {
+fn the_tables_of_the_tool() {
+    let tables = [
+        ("adder8", adder(8, Form::Plain)),
+        ("adder32", adder(32, Form::Plain)),
+        ("adder32_marked", adder(32, Form::Marked)),
+        ("less8", less(8, Form::Plain)),
+        ("less8_marked", less(8, Form::Marked)),
+        ("and32", and(32, Form::Plain)),
+        ("and32_marked", and(32, Form::Marked)),
+    ];
+    for (name, text) in tables {
         assert!(file(name, "table") == text.as_bytes(), "{name}: `table` writes another table");
+    }
+}
+
+/// The table of the examples has a row for each, with the numbers of its listing.
+#[test]
+fn the_numbers_in_the_readme() {
+    let readme = repository::text("examples/README.md");
+    for Function { name, inputs, outputs, .. } in &FUNCTIONS {
+        let listing = String::from_utf8(file(name, "listing")).expect("text");
+        let first: Vec<&str> = listing.lines().next().expect("a first line").split(' ').collect();
+        let row = readme.lines().find(|line| line.starts_with(&format!("| `{name}` |")));
+        let row = row.unwrap_or_else(|| panic!("{name}: no row")).replace(',', "");
+        let numbers = format!("| {inputs} {outputs} | {} {} |", first[3], first[5]);
+        assert!(row.ends_with(&numbers), "{name}: {numbers}");
+    }
+}
+
+/// A marked form takes fewer lines than the plain one, and more gates.
+#[test]
+fn marks_save_lines() {
+    for name in ["adder32", "less8", "and32"] {
+        let [plain, marked] = [name.to_string(), format!("{name}_marked")].map(|name| {
+            let circuit = compiled(&file(&name, "program"));
+            model::circuit::read(&circuit).expect("it reads back")
+        });
+        assert!(marked.work < plain.work, "{name}: {} and {} lines", marked.work, plain.work);
+        assert!(marked.gates.len() > plain.gates.len(), "{name}: more gates");
     }
 }
 

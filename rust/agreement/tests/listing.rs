@@ -64,7 +64,7 @@ fn the_whole_case() {
     assert_eq!(repository::text("crates/listing/stdout"), WHOLE_CASE);
 }
 
-/// The gates of 01's examples, as the stdout of all cases holds them.
+/// The gates of 01's examples and of a XOR of two marked ANDs, as the stdout of all cases holds them.
 #[test]
 fn the_other_examples() {
     let stdout = repository::text("crates/listing_cases/stdout");
@@ -75,6 +75,9 @@ fn the_other_examples() {
         "lines 3 1 1 gates 3\nT 0 1 4\nT 2 4 3\nT 0 1 4\n",
         "lines 4 1 2 gates 5\nT 0 1 6\nT 2 6 5\nT 3 5 4\nT 2 6 5\nT 0 1 6\n",
         "lines 1 1 0 gates 2\nC 0 1\nC 0 1\nlines 0 1 0 gates 0\nlines 0 1 0 gates 1\nN 0\n",
+        "lines 6 1 2 gates 6\nT 0 1 7\nT 2 7 6\nT 3 4 8\nT 5 8 6\nT 3 4 8\nT 0 1 7\n",
+        "lines 6 1 1 gates 10\nT 0 1 7\nT 2 7 6\nT 0 1 7\nT 3 4 7\nT 5 7 6\nT 3 4 7\n\
+         T 3 4 7\nT 3 4 7\nT 0 1 7\nT 0 1 7\n",
     ] {
         assert_eq!(stdout.matches(text).count(), 1, "{text}");
     }

@@ -3,11 +3,12 @@
 use agreement::circuit::Circuit;
 use agreement::compare::compile::written;
 use agreement::compare::quote::{archive, compare, drawn as call, model, numbers, Case, OVER};
-use agreement::program::{self, and, input, not, times, xor, Node, Program, ONE, ZERO};
+use agreement::program::{self, and, input, marked, not, times, xor, Node, Program, ONE, ZERO};
 use agreement::random::Random;
 use agreement::tally::Tally;
 use agreement::{damage, drawn, limits, repository, shaped, Outcome};
 use model::circuit::Gate;
+use model::construct;
 
 /// The numbers of an entry, and of an answer.
 const ENTRY: usize = 8;
@@ -112,6 +113,17 @@ fn every_kind_of_operand() {
     let several = shaped::operands::of_several_outputs();
     let numbers = [[1, 1, 0], [1, 1, 0], [1, 0, 0], [3, 3, 1], [1, 0, 0], [2, 0, 0], [2, 0, 0]];
     gives(several.name, &several.program, &numbers);
+}
+
+/// What is undone at a mark is counted, also where it is undone again; lines are the most in use
+/// together.
+#[test]
+fn every_kind_of_mark() {
+    for example in shaped::marks::of_one_output() {
+        gives(example.name, &example.program, &[numbers_of(&example.circuit)]);
+    }
+    let several = shaped::marks::of_several_outputs();
+    gives(several.name, &several.program, &[[9, 1, 1], [11, 3, 2], [18, 2, 1]]);
 }
 
 /// A node is built anew at each use, on new lines. What is built into the target is not undone.
@@ -381,6 +393,102 @@ fn a_million_work_lines() {
     gives("1,000,001", &last(one_more, 500_000), &[[500_001, 500_001, 1_000_001]]);
 }
 
+/// Below a mark each gate is there four times: built and undone, and both again at the end. Below two
+/// it is there eight times, and the gate between them four times.
+#[test]
+fn a_million_gates_under_marks() {
+    type Above = fn(u16) -> Node;
+    // With the work lines of one such node, and of two of them. Of ZERO first, its line stays in use.
+    let above: [(Above, u64, u64); 4] = [
+        (|a| marked(a, 1), 2, 3),
+        (|a| marked(1, a), 2, 4),
+        (|a| marked(a, 3), 1, 2),
+        (|a| marked(3, a), 1, 2),
+    ];
+    for (above, lines, lines_of_two) in above {
+        let of = |count| repeated(AN_INPUT, count, &[above]);
+        gives("999,997", &of(249_999), &[[999_997, 1, lines]]);
+        gives("1,000,001", &of(250_000), &[[1_000_001, 1, lines]]);
+        gives("1,000,005", &of(250_001), &[[1_000_001, 1, lines]]);
+        let with_nots = |count| [&[above][..], &vec![not as Above; count]].concat();
+        let even = |nots| repeated(AN_INPUT, 249_999, &with_nots(nots));
+        gives("1,000,000", &even(3), &[[1_000_000, 1, lines]]);
+        gives("1,000,001", &even(4), &[[1_000_001, 1, lines]]);
+        gives("1,000,002", &even(5), &[[1_000_001, 1, lines]]);
+
+        let toffolis = |count| repeated(OF_TWO_INPUTS, count, &[above]);
+        gives("999,997", &toffolis(249_999), &[[999_997, 999_997, lines]]);
+        gives("1,000,001", &toffolis(250_000), &[[1_000_001, 1_000_001, lines]]);
+        let nested = |count| repeated(OF_TWO_INPUTS, count, &[above, above]);
+        gives("999,997", &nested(124_999), &[[999_997, 999_997, lines_of_two]]);
+        gives("1,000,005", &nested(125_000), &[[1_000_001, 1_000_001, lines_of_two]]);
+    }
+
+    // One mark, at the lower AND and at the upper one.
+    let below = |count| repeated(AN_INPUT, count, &[|a| marked(a, 3), |a| and(a, 3)]);
+    gives("999,999", &below(249_999), &[[999_999, 3, 2]]);
+    gives("1,000,003", &below(250_000), &[[1_000_001, 3, 2]]);
+    let above = |count| repeated(AN_INPUT, count, &[|a| and(a, 3), |a| marked(a, 3)]);
+    gives("1,000,001", &above(249_999), &[[1_000_001, 5, 2]]);
+    gives("999,997", &above(249_998), &[[999_997, 5, 2]]);
+}
+
+/// Lines that are given back are taken again, and the most in use together count: those of the first
+/// operand, or those of the second and what the first one keeps.
+#[test]
+fn a_million_work_lines_under_marks() {
+    let above = |count, more: &[fn(u16) -> Node]| {
+        let first: fn(u16) -> Node = |a| marked(a, 1);
+        repeated(OF_ZEROS, count, &[&[first], more].concat())
+    };
+    gives("1,000,000", &above(499_999, &[]), &[[OVER, OVER, 1_000_000]]);
+    gives("1,000,002", &above(500_000, &[]), &[[OVER, OVER, OVER]]);
+    gives("twice", &above(499_999, &[|a| xor(a, a)]), &[[OVER, OVER, 1_000_000]]);
+    gives("beside two", &above(499_999, &[|a| xor(a, OF_ZEROS)]), &[[OVER, OVER, 1_000_000]]);
+    gives("behind two", &above(499_999, &[|a| xor(OF_ZEROS, a)]), &[[OVER, OVER, OVER]]);
+    gives("behind two", &above(499_998, &[|a| xor(OF_ZEROS, a)]), &[[OVER, OVER, 1_000_000]]);
+    gives("an operand", &above(499_998, &[|a| and(a, 1)]), &[[OVER, OVER, 999_999]]);
+    gives("the other one", &above(499_998, &[|a| and(1, a)]), &[[OVER, OVER, 1_000_000]]);
+    gives("both operands", &above(499_998, &[|a| and(a, a)]), &[[OVER, OVER, 1_000_000]]);
+    gives("both operands", &above(499_999, &[|a| and(a, a)]), &[[OVER, OVER, OVER]]);
+
+    // A million marked ANDs, one after the other, on the same two lines.
+    let mut nodes = vec![ZERO, marked(0, 0)];
+    let last = times(&mut nodes, 1, 1_000_000);
+    gives("2 lines", &Program::new(0, &nodes, &[last]), &[[1_000_000, 1_000_000, 2]]);
+}
+
+/// With n nested marks there are 2^(n + 1) - 3 gates, all of them Toffolis.
+#[test]
+fn nested_marks() {
+    let nodes = limits::nested_marks(4_032).nodes;
+    let depths: Vec<u16> = (1..=20).chain(DEPTHS).chain([4_032]).collect();
+    let outputs: Vec<u16> = depths.iter().map(|depth| 63 + depth).collect();
+    let numbers: Vec<[u64; 3]> = depths
+        .iter()
+        .map(|depth| {
+            let gates = if *depth < 19 { (2 << depth) - 3 } else { OVER };
+            [gates, gates, u64::from(*depth) - 1]
+        })
+        .collect();
+    gives("marks", &Program::new(64, &nodes, &outputs), &numbers);
+
+    // Of a node with itself each is four times as large, and takes two lines more.
+    let nodes = doubled(ONE, marked);
+    let outputs = [1, 2, 3, 8, 9, 10, 11, 31, 32, 4_000];
+    let mut numbers = [[OVER; 3]; 10];
+    numbers[0] = [9, 1, 2];
+    numbers[1] = [41, 9, 4];
+    numbers[2] = [169, 41, 6];
+    numbers[3] = [174_761, 43_689, 16];
+    numbers[4] = [699_049, 174_761, 18];
+    numbers[5] = [OVER, 699_049, 20];
+    for (numbers, depth) in numbers.iter_mut().zip(outputs).skip(6) {
+        numbers[2] = 2 * u64::from(depth);
+    }
+    gives("marks of both operands", &Program::new(0, &nodes, &outputs), &numbers);
+}
+
 /// Numbers that are small in 32 or 64 bits, or added to another one there, are over all the same.
 #[test]
 fn numbers_that_are_small_in_fewer_bits() {
@@ -401,6 +509,16 @@ fn numbers_that_are_small_in_fewer_bits() {
             let beside = |node| repeated(node, count, &[|a| and(a, 0)]);
             gives("gates beside an input", &beside(AN_INPUT), &[[OVER, 1, 1]]);
             gives("Toffolis beside an input", &beside(OF_TWO_INPUTS), &[[OVER, OVER, 1]]);
+        }
+    }
+    for power in [31, 32, 62, 63, 64, 65] {
+        for gates in [(1 << power) - 1, 1 << power, (1 << power) + 1] {
+            let under_marks = |program: &Program| {
+                let lines = construct::most_work_lines(&drawn::read(program)) as u64;
+                gives("gates under marks", program, &[[OVER, OVER, lines]]);
+            };
+            under_marks(&limits::of_marked_gates(&[gates]));
+            under_marks(&limits::marked_above(gates));
         }
     }
     let all = |node, more: &[fn(u16) -> Node]| repeated(node, usize::MAX, more);
@@ -440,6 +558,13 @@ fn programs_that_do_not_compile() {
     refuses("8,001 gates", &limits::a_gate_too_many(), (11, 8_001), &numbers);
     let numbers = [[8_193, 0, 0]; 64];
     refuses("524,352 gates", &limits::largest_outputs(64), (11, 524_352), &numbers);
+
+    let numbers = [[46_875, 46_875, 13]; 64];
+    refuses("3,000,000", &limits::of_marked_gates(&[46_875; 64]), (11, 3_000_000), &numbers);
+    let numbers = [[OVER, OVER, 1_024]];
+    refuses("2^1026 - 3 gates", &limits::nested_marks(1_025), (11, 3_000_001), &numbers);
+    let numbers = [[OVER, OVER, 1_025]];
+    refuses("1,025 lines under marks", &limits::nested_marks(1_026), (10, 1_025), &numbers);
 }
 
 /// The gates, Toffolis and work lines of the circuit file that a program file compiles to.
@@ -473,9 +598,11 @@ fn accepted_programs_have_the_numbers_of_their_circuits() {
     for program in limits::accepted() {
         agrees_with_compiling("a program at a limit", &program);
     }
-    for name in ["and", "nor", "majority", "full_adder", "adder8", "adder32", "less8"] {
-        let file = repository::read(format!("examples/functions/{name}.program"));
-        sums_are_those_of_the_circuit(name, &file);
+    for name in repository::names("examples/functions") {
+        if name.ends_with(".program") {
+            let file = repository::read(format!("examples/functions/{name}"));
+            sums_are_those_of_the_circuit(&name, &file);
+        }
     }
     let mut random = Random::new(0x6167_7265);
     for _ in 0..2_000 {
@@ -535,7 +662,7 @@ fn each_byte_of_the_whole_case_changed() {
     tally.finish(56 * 256 * 4, &[1, 2, 3, 4, 5, 6, 7]);
 }
 
-/// Every table of four nodes over two inputs, each of them an output: 9,800 programs.
+/// Every table of four nodes over two inputs, each of them an output: 19,584 programs.
 #[test]
 fn every_small_table() {
     let mut tally = Tally::new("quote, every small table");
@@ -543,7 +670,7 @@ fn every_small_table() {
         let file = Program::new(2, &nodes, &[0, 1, 2, 3]).bytes();
         tally.count(&compare(&Case::new(&file, 4 * ENTRY, 4 * ANSWER)));
     }
-    tally.finish(4 * 7 * 14 * 25, &[]);
+    tally.finish(4 * 8 * 18 * 34, &[]);
 }
 
 #[test]
@@ -577,11 +704,12 @@ fn count(seen: &mut [[u64; 3]; 3], numbers: &[u64; 3]) {
 
 /// Mostly a good file; then mostly lists that are long enough.
 fn random_case(random: &mut Random) -> Case {
-    let file = match random.below(8) {
+    let file = match random.below(10) {
         0..=1 => program::damaged(random),
         2 => program::valid(random).bytes(),
         3 => drawn::large(random).bytes(),
-        4..=5 => drawn::repeated(random).bytes(),
+        4..=6 => drawn::repeated(random).bytes(),
+        7 => drawn::about_three_million(random).bytes(),
         _ => drawn::any(random).bytes(),
     };
     call(random, file)

@@ -4,7 +4,7 @@
 use agreement::circuit::{cnot, not, sorted_toffoli, Circuit};
 use agreement::compare::compile::needs;
 use agreement::compare::{MOST_NODES, NO_GATES};
-use agreement::program::{self, and, input, xor, Node, Program};
+use agreement::program::{self, and, input, marked, xor, Node, Program};
 use agreement::random::Random;
 
 /// The number of inputs of every program and circuit here.
@@ -21,6 +21,23 @@ pub fn of_all_kinds(random: &mut Random) -> Vec<u8> {
 /// So many nodes of all kinds, and 64 outputs.
 pub fn of_nodes(random: &mut Random, nodes: usize) -> Vec<u8> {
     program::of_size(random, INPUTS, 64, nodes).bytes()
+}
+
+/// The same as [`of_all_kinds`] with a mark at every other AND.
+pub fn of_all_kinds_marked(random: &mut Random) -> Vec<u8> {
+    let program = program::of_size(random, INPUTS, 64, MOST_NODES);
+    program.with_marks(|| random.once_in(2)).bytes()
+}
+
+/// 4,096 nodes, ANDs of any nodes below but for the inputs, all of them marked, and 64 outputs.
+pub fn of_marked_ands(random: &mut Random) -> Vec<u8> {
+    let mut nodes = inputs();
+    while nodes.len() < MOST_NODES {
+        let [a, b] = [(); 2].map(|()| random.below(nodes.len()) as u16);
+        nodes.push(marked(a, b));
+    }
+    let outputs: Vec<u16> = (0..64).map(|_| random.below(MOST_NODES) as u16).collect();
+    Program::new(INPUTS as u16, &nodes, &outputs).bytes()
 }
 
 /// 4,096 nodes, NOT, XOR and AND of inputs, and 64 outputs of 2 gates, each a NOT or a XOR.
@@ -45,12 +62,62 @@ pub fn and_trees(random: &mut Random, gates: usize) -> Vec<u8> {
     let mut nodes = inputs();
     nodes.extend((0..INPUTS as u16).map(program::not));
     let tree = |_| {
-        let nots = some_inputs(random, 16).into_iter().map(|input| INPUTS as u16 + input);
-        let leaves = nots.chain(some_inputs(random, 16)).collect();
+        let leaves = [some_nots(random, 16), some_inputs(random, 16)].concat();
         add_tree(random, &mut nodes, and, leaves)
     };
     let outputs: Vec<u16> = (0..gates / 125).map(tree).collect();
     with_gates(gates, &nodes, &outputs)
+}
+
+/// 64 outputs of 125 gates, with a tree of 19 ANDs each. Of its leaves, 8 are inputs, 8 are NOTs of
+/// inputs, and 4 are marked ANDs of an input and an AND of an input and a NOT.
+pub fn trees_of_marked_ands(random: &mut Random) -> Vec<u8> {
+    let mut nodes = inputs();
+    nodes.extend((0..INPUTS as u16).map(program::not));
+    let mut outputs = Vec::new();
+    for _ in 0..64 {
+        let mut leaves: Vec<u16> = (0..4).map(|_| add_marked(random, &mut nodes, 1, 2)).collect();
+        leaves.extend(some_nots(random, 8));
+        leaves.extend(some_inputs(random, 8));
+        outputs.push(add_tree(random, &mut nodes, and, leaves));
+    }
+    with_gates(8000, &nodes, &outputs)
+}
+
+/// One output of 8,000 gates: a tree of XORs over 320 marked ANDs, of two inputs and two NOTs each,
+/// which take the same lines one after the other.
+pub fn sum_of_marked_ands(random: &mut Random) -> Vec<u8> {
+    let mut nodes = inputs();
+    nodes.extend((0..INPUTS as u16).map(program::not));
+    let leaves = (0..320).map(|_| add_marked(random, &mut nodes, 2, 2)).collect();
+    let output = add_tree(random, &mut nodes, xor, leaves);
+    with_gates(8000, &nodes, &[output])
+}
+
+/// 64 outputs of 125 gates: six ANDs of inputs, each next one of the one before, all marked.
+pub fn nested_marks(random: &mut Random) -> Vec<u8> {
+    let mut nodes = inputs();
+    let mut outputs = Vec::new();
+    for _ in 0..64 {
+        let mut last = an_input(random);
+        for beside in some_inputs(random, 6) {
+            let operands = random.pick(&[(last, beside), (beside, last)]);
+            last = add(&mut nodes, marked(operands.0, operands.1));
+        }
+        outputs.push(last);
+    }
+    with_gates(8000, &nodes, &outputs)
+}
+
+/// 64 outputs of size 16,379 and 29,484 gates: a tree of XORs over 819 marked ANDs of an input and a
+/// NOT, which is counted four times for each.
+pub fn largest_marked_outputs(random: &mut Random) -> Vec<u8> {
+    let mut nodes = inputs();
+    nodes.extend((0..INPUTS as u16).map(program::not));
+    let leaves = (0..819).map(|_| add_marked(random, &mut nodes, 1, 1)).collect();
+    let root = add_tree(random, &mut nodes, xor, leaves);
+    let output = four_times(&mut nodes, root);
+    with_gates(64 * 29_484, &nodes, &[output; 64])
 }
 
 /// One output of 8,000 gates: a tree of 1,999 XORs, which is built four times.
@@ -96,6 +163,19 @@ fn an_input(random: &mut Random) -> u16 {
 
 fn some_inputs(random: &mut Random, count: usize) -> Vec<u16> {
     (0..count).map(|_| an_input(random)).collect()
+}
+
+/// NOTs of inputs, where that of input j is node 64 + j.
+fn some_nots(random: &mut Random, count: usize) -> Vec<u16> {
+    some_inputs(random, count).into_iter().map(|input| INPUTS as u16 + input).collect()
+}
+
+/// Adds a random tree of ANDs over so many NOTs of inputs and inputs, its root marked, and gives that.
+fn add_marked(random: &mut Random, nodes: &mut Vec<Node>, nots: usize, inputs: usize) -> u16 {
+    let leaves = [some_nots(random, nots), some_inputs(random, inputs)].concat();
+    let root = add_tree(random, nodes, and, leaves);
+    nodes[usize::from(root)].mark = 1;
+    root
 }
 
 /// Adds a node, and gives its number.

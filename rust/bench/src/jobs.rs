@@ -212,20 +212,24 @@ pub fn largest(random: &mut Random) -> Vec<Job> {
     let gates = "8,000 gates on 1,152 lines";
     let circuit = |random: &mut Random| files::circuit(random, 8000);
     let and_trees = |random: &mut Random| files::and_trees(random, 8000);
-    let refused = Job {
-        buffers: CLEARED,
-        rounds: 15,
-        accepted: false,
-        ..job(Compile, "refused 11, 64 outputs of size 16,384", files::largest_outputs)
-    };
+    let marked_nodes = "the same, half of the ANDs marked";
+    let refused = |job: Job| Job { buffers: CLEARED, rounds: 15, accepted: false, ..job };
     vec![
         job(ReadProgram, nodes, files::of_all_kinds),
+        job(ReadProgram, marked_nodes, files::of_all_kinds_marked),
         job(Evaluate, nodes, files::of_all_kinds),
+        job(Evaluate, marked_nodes, files::of_all_kinds_marked),
         job(Compile, "4,096 nodes, 64 outputs of 2 gates", files::small_outputs),
         job(Compile, "8,000 gates, 64 outputs of ANDs", and_trees),
+        job(Compile, "the same, 4 of 27 ANDs marked", files::trees_of_marked_ands),
+        job(Compile, "the same, 6 nested marks each", files::nested_marks),
         job(Compile, "8,000 gates, one output of XORs", files::xor_tree),
-        refused,
+        job(Compile, "the same, of 320 marked ANDs", files::sum_of_marked_ands),
+        refused(job(Compile, "refused 11, 64 outputs of size 16,384", files::largest_outputs)),
+        refused(job(Compile, "the same of size 16,379, with marks", files::largest_marked_outputs)),
         job(Quote, nodes, files::of_all_kinds),
+        job(Quote, marked_nodes, files::of_all_kinds_marked),
+        job(Quote, "4,096 nodes, 4,032 marked ANDs", files::of_marked_ands),
         job(Quote, "4,096 nodes, 64 outputs of 2 gates", files::small_outputs),
         job(ReadCircuit, gates, circuit),
         job(RunForwards, gates, circuit),

@@ -6,7 +6,7 @@ use std::process::{Command, Stdio};
 use std::{env, process, thread};
 
 use agreement::compare::{MOST_BYTES, MOST_NODES};
-use agreement::program::{and, input, not, xor, Node, Program};
+use agreement::program::{and, input, marked, not, xor, Node, Program};
 
 /// The argument that makes this program try one stack.
 const TRY: &str = "try-stack";
@@ -20,12 +20,13 @@ const BALLAST: usize = 256 * 1024;
 type Shape = (&'static str, fn(u16) -> Node);
 
 /// What is deepest to count and to build.
-const SHAPES: [Shape; 6] = [
+const SHAPES: [Shape; 8] = [
     ("NOT of the one before", not),
     ("XOR of the one before and a leaf", |before| xor(before, 0)),
     ("XOR of a leaf and the one before", |before| xor(0, before)),
     ("AND of the one before and a leaf (refused 10)", |before| and(before, 0)),
     ("AND of a leaf and the one before (refused 10)", |before| and(0, before)),
+    ("the same, marked (refused 10)", |before| marked(0, before)),
     (
         "1,025 such ANDs, then NOTs",
         |before| {
@@ -36,6 +37,13 @@ const SHAPES: [Shape; 6] = [
             }
         },
     ),
+    ("1,000 NOTs, a marked AND, then NOTs", |before| {
+        if before == 1_000 {
+            marked(0, before)
+        } else {
+            not(before)
+        }
+    }),
 ];
 
 fn shape(index: usize) -> Program {

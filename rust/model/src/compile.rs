@@ -7,6 +7,10 @@ const LARGEST_SIZE: usize = 16_384;
 const MOST_WORK_LINES: u64 = 1_024;
 const MOST_GATES: usize = 8_000;
 
+/// The largest number of gates that refusal 11 gives as it is. For every larger one it gives the
+/// next.
+const LARGEST_EXACT: usize = 3_000_000;
+
 /// Writes the circuit file of a program and gives its length. Causes 1 to 7 leave both areas; from
 /// then on the start of `sizes` is filled. Cause 11 makes all of `area` zero; every other refusal
 /// leaves it.
@@ -32,7 +36,7 @@ pub fn compile(
     check_limits(&program, &unfolded, grant)?;
 
     // 11: too many gates, or the area is too short
-    let gates = gates_needed(&program);
+    let gates = construct::gates_needed(&program).min(LARGEST_EXACT + 1);
     if gates > MOST_GATES || area.len() < circuit::file_length(gates) {
         area.fill(0);
         return Err(Refusal::at(11, gates));
@@ -63,10 +67,6 @@ fn check_limits(program: &Program, unfolded: &[usize], grant: u64) -> Result<(),
     Ok(())
 }
 
-fn gates_needed(program: &Program) -> usize {
-    program.outputs.iter().map(|i| construct::share_gate_count(&program.nodes, *i)).sum()
-}
-
 #[cfg(test)]
 mod tests {
     use super::*;
@@ -93,7 +93,12 @@ mod tests {
         [5, a, b]
     }
 
-    /// The program file of these nodes: kind, a, b. A kind's high byte is the zero byte.
+    /// The same with its mark.
+    fn marked(a: u16, b: u16) -> [u16; 3] {
+        [0x105, a, b]
+    }
+
+    /// The program file of these nodes: kind, a, b. A kind's high byte is the mark.
     fn file(inputs: u16, nodes: &[[u16; 3]], outputs: &[u16]) -> Vec<u8> {
         let head = [inputs, outputs.len() as u16];
         let lengths = [4, 6 * nodes.len() as u32, 2 * outputs.len() as u32];
@@ -229,6 +234,53 @@ mod tests {
         assert_eq!(area[64_028], 9);
         assert_eq!(refused(&most, 0, 18, 64_027), (11, 8_000, true, true));
         assert_eq!(refused(&file(1, &nodes, &[17, 0]), 0, 18, 70_000), (11, 8_001, true, true));
+    }
+
+    /// The XOR of an AND of three inputs with itself needs a line less with a mark, and four gates
+    /// more.
+    #[test]
+    fn marks_are_counted() {
+        let three = |and: [u16; 3]| [input(0), input(1), input(2), [5, 0, 1], and, xor(4, 4)];
+        let twice = file(3, &three(and(3, 2)), &[5]);
+        assert_eq!(refused(&twice, 1, 6, 100), (10, 2, true, false));
+        assert_eq!(refused(&twice, 2, 6, 75), (11, 6, true, true));
+        let twice = file(3, &three(marked(3, 2)), &[5]);
+        assert_eq!(refused(&twice, 0, 6, 200), (10, 1, true, false));
+        assert_eq!(refused(&twice, 1, 6, 107), (11, 10, true, true));
+        let build = [Toffoli(0, 1, 4), Toffoli(2, 4, 3), Toffoli(0, 1, 4)];
+        let gates = [&build[..], &build, &[Toffoli(0, 1, 4); 4]].concat();
+        let circuit = Circuit { inputs: 3, outputs: 1, work: 1, gates };
+        gives(&twice, &[1, 1, 1, 3, 5, 11], &circuit);
+    }
+
+    /// ANDs of the one before, all marked: the share of node i + 1 has 2^(i + 2) - 3 gates.
+    fn nested(outputs: &[u16]) -> Vec<u8> {
+        let mut nodes = vec![input(0), marked(0, 0)];
+        nodes.extend((1..1_025).map(|before| marked(before, 0)));
+        file(1, &nodes, outputs)
+    }
+
+    /// 3,000,000 is 2^21 + 2^19 + 2^18 + 2^16 + 2^15 + 2^14 + 2^10 + 2^9 + 2^7 + 2^6. A share has 3
+    /// gates fewer than a power of two, and two shares of 13 gates and four of 1 make up for that.
+    #[test]
+    fn over_three_million_gates_one_more_is_shown() {
+        let place = |outputs: &[u16]| {
+            let (number, place, filled, cleared) = refused(&nested(outputs), 1_024, 1_026, 70_000);
+            assert_eq!((number, filled, cleared), (11, true, true));
+            place
+        };
+        let powers = [20, 18, 17, 15, 14, 13, 9, 8, 6, 5];
+        let most = [&powers[..], &[3, 3, 1, 1, 1, 1]].concat();
+        assert_eq!(place(&most[1..]), 3_000_000 - (2_097_152 - 3));
+        assert_eq!(place(&most), 3_000_000);
+        assert_eq!(place(&[&most[..], &[1]].concat()), 3_000_001);
+        assert_eq!(place(&[&most[..], &[1, 1]].concat()), 3_000_001);
+        assert_eq!(place(&[21]), 3_000_001);
+        for far in [31, 32, 63, 64, 1_025] {
+            assert_eq!(place(&[far]), 3_000_001);
+            assert_eq!(place(&[far; 4]), 3_000_001);
+        }
+        assert_eq!(refused(&nested(&[1_025]), 1_023, 1_026, 9), (10, 1_024, true, false));
     }
 
     #[test]

@@ -1,10 +1,11 @@
-//! The construction, from 01 with 02's A5 and section 4.1 of 001: the gates of each output's share,
-//! and their numbers.
+//! The construction, from 01 with 02's A5 and A7 and section 4.1 of 001: the gates of each output's
+//! share, and their numbers.
 //!
-//! A node is unfolded at each use, so the time that all but [`sizes`] take grows with the unfolded
-//! size.
+//! A node is unfolded at each use, so the time that building and counting gates take grows with the
+//! unfolded size; that of building under marks grows with the gates, which may be many more.
 
 use std::cmp::Ordering::{Equal, Greater, Less};
+use std::ops::Range;
 
 use crate::circuit::{Circuit, Gate};
 use crate::program::{Node, Program};
@@ -16,7 +17,7 @@ pub fn build(nodes: &[Node], i: usize, t: usize, f: usize) -> Vec<Gate> {
 
 fn built(nodes: &[Node], i: usize, t: usize, f: usize) -> Building<'_> {
     let lines = WorkLines { first: f, in_use: Vec::new(), most: 0 };
-    let mut building = Building { nodes, lines, gates: Vec::new() };
+    let mut building = Building { nodes, lines, gates: Vec::new(), cleaned: Vec::new() };
     building.xor_into(i, t);
     building
 }
@@ -29,13 +30,32 @@ pub fn share(program: &Program, k: usize) -> Vec<Gate> {
 /// The same, and the most work lines that were in use together.
 pub(crate) fn share_and_lines(program: &Program, k: usize) -> (Vec<Gate>, usize) {
     let target = program.inputs + k;
-    let first_work_line = program.inputs + program.outputs.len();
-    let Building { mut gates, lines, .. } =
-        built(&program.nodes, program.outputs[k], target, first_work_line);
+    let Building { mut gates, lines, .. } = output_built(program, k);
     let undone: Vec<Gate> =
         gates.iter().rev().filter(|gate| gate.target() != target).copied().collect();
     gates.extend(undone);
     (gates, lines.most)
+}
+
+fn output_built(program: &Program, k: usize) -> Building<'_> {
+    let target = program.inputs + k;
+    let first_work_line = program.inputs + program.outputs.len();
+    built(&program.nodes, program.outputs[k], target, first_work_line)
+}
+
+/// The marked ANDs of output k, each as often as it is built anew, in the order in which they end.
+/// Their gates are counted from the share's first.
+pub fn cleaned(program: &Program, k: usize) -> Vec<Cleaned> {
+    output_built(program, k).cleaned
+}
+
+/// A marked AND as it was built.
+#[derive(Debug, Clone, PartialEq, Eq)]
+pub struct Cleaned {
+    /// Its gates: those of its operands, its own, and those of its operands undone.
+    pub gates: Range<usize>,
+    /// The lines that are free again behind them.
+    pub freed: Vec<usize>,
 }
 
 /// The gates of the first j outputs, one share after the other.
@@ -72,13 +92,24 @@ impl WorkLines {
         self.most = self.most.max(together);
         self.first + lowest
     }
+
+    /// Makes just those lines in use that were so before, and gives those that are free by that.
+    fn back_to(&mut self, before: Vec<bool>) -> Vec<usize> {
+        let was_free = |line: &usize| !before.get(*line).copied().unwrap_or(false);
+        let freed: Vec<usize> =
+            (0..self.in_use.len()).filter(|line| self.in_use[*line]).filter(was_free).collect();
+        self.in_use = before;
+        freed.into_iter().map(|line| self.first + line).collect()
+    }
 }
 
-/// The gates so far. No line is given back before the share is over.
+/// The gates so far, and the marked ANDs among them. No line is given back before the share is over
+/// but at these.
 struct Building<'a> {
     nodes: &'a [Node],
     lines: WorkLines,
     gates: Vec<Gate>,
+    cleaned: Vec<Cleaned>,
 }
 
 impl Building<'_> {
@@ -95,12 +126,27 @@ impl Building<'_> {
                 self.xor_into(a, t);
                 self.xor_into(b, t);
             }
-            Node::And(a, b) => {
-                let first = self.control(a);
-                let second = self.control(b);
-                self.gates.push(and_into(first, second, t));
-            }
+            Node::And(a, b) => self.xor_and_into(a, b, t),
+            Node::MarkedAnd(a, b) => self.xor_marked_and_into(a, b, t),
         }
+    }
+
+    fn xor_and_into(&mut self, a: usize, b: usize, t: usize) {
+        let first = self.control(a);
+        let second = self.control(b);
+        self.gates.push(and_into(first, second, t));
+    }
+
+    /// Behind the AND's gate, those of its operands follow again, the last one first. So the lines
+    /// that it took hold what they held before, and are free.
+    fn xor_marked_and_into(&mut self, a: usize, b: usize, t: usize) {
+        let (before, start) = (self.lines.in_use.clone(), self.gates.len());
+        self.xor_and_into(a, b, t);
+        let own = self.gates.len() - 1;
+        let undone: Vec<Gate> = self.gates[start..own].iter().rev().copied().collect();
+        self.gates.extend(undone);
+        let freed = self.lines.back_to(before);
+        self.cleaned.push(Cleaned { gates: start..self.gates.len(), freed });
     }
 
     /// The line that holds an operand of AND: an input's own, for any other node a work line that is
@@ -130,7 +176,9 @@ pub fn size(nodes: &[Node], i: usize) -> usize {
     match nodes[i] {
         Node::Zero | Node::One | Node::Input(_) => 1,
         Node::Not(a) => 1 + size(nodes, a),
-        Node::Xor(a, b) | Node::And(a, b) => 1 + size(nodes, a) + size(nodes, b),
+        Node::Xor(a, b) | Node::And(a, b) | Node::MarkedAnd(a, b) => {
+            1 + size(nodes, a) + size(nodes, b)
+        }
     }
 }
 
@@ -141,27 +189,35 @@ pub fn sizes(nodes: &[Node]) -> Vec<usize> {
         let size = match *node {
             Node::Zero | Node::One | Node::Input(_) => 1,
             Node::Not(a) => 1 + sizes[a],
-            Node::Xor(a, b) | Node::And(a, b) => 1 + sizes[a] + sizes[b],
+            Node::Xor(a, b) | Node::And(a, b) | Node::MarkedAnd(a, b) => 1 + sizes[a] + sizes[b],
         };
         sizes.push(size.min(16_385));
     }
     sizes
 }
 
-/// How many gates build node i.
+/// How many gates build node i, or `usize::MAX` if that is less: nested marks multiply them.
 pub fn gate_count(nodes: &[Node], i: usize) -> usize {
+    let count = |operand| gate_count(nodes, operand);
     match nodes[i] {
         Node::Zero => 0,
         Node::One | Node::Input(_) => 1,
-        Node::Not(a) => 1 + gate_count(nodes, a),
-        Node::Xor(a, b) => gate_count(nodes, a) + gate_count(nodes, b),
-        Node::And(a, b) => match (nodes[a], nodes[b]) {
-            (Node::Input(_), Node::Input(_)) => 1,
-            (Node::Input(_), _) => gate_count(nodes, b) + 1,
-            (_, Node::Input(_)) => gate_count(nodes, a) + 1,
-            _ => gate_count(nodes, a) + gate_count(nodes, b) + 1,
-        },
+        Node::Not(a) => count(a).saturating_add(1),
+        Node::Xor(a, b) => count(a).saturating_add(count(b)),
+        Node::And(a, b) => operands_gate_count(nodes, a, b).saturating_add(1),
+        Node::MarkedAnd(a, b) => {
+            operands_gate_count(nodes, a, b).saturating_mul(2).saturating_add(1)
+        }
     }
+}
+
+/// The same of both operands of an AND, without those that are inputs.
+fn operands_gate_count(nodes: &[Node], a: usize, b: usize) -> usize {
+    let count = |operand| match nodes[operand] {
+        Node::Input(_) => 0,
+        _ => gate_count(nodes, operand),
+    };
+    count(a).saturating_add(count(b))
 }
 
 /// How many of them have the line that node i is built into as their target.
@@ -171,34 +227,72 @@ pub fn own_gate_count(nodes: &[Node], i: usize) -> usize {
         Node::One | Node::Input(_) => 1,
         Node::Not(a) => 1 + own_gate_count(nodes, a),
         Node::Xor(a, b) => own_gate_count(nodes, a) + own_gate_count(nodes, b),
-        Node::And(_, _) => 1,
-    }
-}
-
-/// How many work lines building node i takes, counted from its operands.
-pub fn work_lines(nodes: &[Node], i: usize) -> usize {
-    match nodes[i] {
-        Node::Zero | Node::One | Node::Input(_) => 0,
-        Node::Not(a) => work_lines(nodes, a),
-        Node::Xor(a, b) => work_lines(nodes, a) + work_lines(nodes, b),
-        Node::And(a, b) => match (nodes[a], nodes[b]) {
-            (Node::Input(_), Node::Input(_)) => 0,
-            (Node::Input(_), _) => 1 + work_lines(nodes, b),
-            (_, Node::Input(_)) => 1 + work_lines(nodes, a),
-            _ => 2 + work_lines(nodes, a) + work_lines(nodes, b),
-        },
+        Node::And(_, _) | Node::MarkedAnd(_, _) => 1,
     }
 }
 
 /// How many gates the share of an output has whose node is i: those that build it, and all but its
-/// own again.
+/// own again; or `usize::MAX` if that is less.
 pub fn share_gate_count(nodes: &[Node], i: usize) -> usize {
-    2 * gate_count(nodes, i) - own_gate_count(nodes, i)
+    let (all, own) = (gate_count(nodes, i), own_gate_count(nodes, i));
+    all.saturating_add(all - own)
+}
+
+/// The circuit's gates, counted, or `usize::MAX` if that is less.
+pub fn gates_needed(program: &Program) -> usize {
+    let count = |i: &usize| share_gate_count(&program.nodes, *i);
+    program.outputs.iter().map(count).fold(0, usize::saturating_add)
+}
+
+/// The work lines that building a node takes, or `usize::MAX` if that is less.
+#[derive(Debug, Clone, Copy, Default, PartialEq, Eq)]
+pub struct LineCount {
+    /// The most that are in use together.
+    pub most: usize,
+    /// Those that are still in use when it is built.
+    pub kept: usize,
+}
+
+impl LineCount {
+    /// Of one node and then another, which finds the lines of the first in use.
+    fn then(self, next: LineCount) -> LineCount {
+        LineCount {
+            most: self.most.max(self.kept.saturating_add(next.most)),
+            kept: self.kept.saturating_add(next.kept),
+        }
+    }
+}
+
+/// The same of each node, counted from its operands.
+pub fn line_counts(nodes: &[Node]) -> Vec<LineCount> {
+    let mut counts: Vec<LineCount> = Vec::new();
+    for node in nodes {
+        // An operand of AND, which has its own line before the others, unless it is an input.
+        let control = |operand: usize| match nodes[operand] {
+            Node::Input(_) => LineCount::default(),
+            _ => LineCount { most: 1, kept: 1 }.then(counts[operand]),
+        };
+        let count = match *node {
+            Node::Zero | Node::One | Node::Input(_) => LineCount::default(),
+            Node::Not(a) => counts[a],
+            Node::Xor(a, b) => counts[a].then(counts[b]),
+            Node::And(a, b) => control(a).then(control(b)),
+            Node::MarkedAnd(a, b) => LineCount { kept: 0, ..control(a).then(control(b)) },
+        };
+        counts.push(count);
+    }
+    counts
+}
+
+/// How many work lines building node i takes: the most that are in use together.
+pub fn work_lines(nodes: &[Node], i: usize) -> usize {
+    line_counts(&nodes[..=i])[i].most
 }
 
 /// The circuit's w, counted: the most work lines that any output takes.
 pub fn most_work_lines(program: &Program) -> usize {
-    program.outputs.iter().map(|i| work_lines(&program.nodes, *i)).max().unwrap_or(0)
+    let counts = line_counts(&program.nodes);
+    program.outputs.iter().map(|i| counts[*i].most).max().unwrap_or(0)
 }
 
 #[cfg(test)]
@@ -232,8 +326,7 @@ mod tests {
         let circuit = circuit(program);
         assert_eq!((circuit.inputs, circuit.outputs), (program.inputs, program.outputs.len()));
         assert_eq!((circuit.work, &circuit.gates[..]), (work, gates));
-        let counts = program.outputs.iter().map(|i| share_gate_count(&program.nodes, *i));
-        assert_eq!(counts.sum::<usize>(), gates.len());
+        assert_eq!(gates_needed(program), gates.len());
         assert_eq!(most_work_lines(program), work);
     }
 
@@ -251,7 +344,9 @@ mod tests {
         assert_eq!((lines.take_lowest_free(), lines.most), (11, 3));
         assert_eq!((lines.take_lowest_free(), lines.most), (13, 4));
         assert_eq!((lines.take_lowest_free(), lines.most), (14, 5));
-        lines.in_use = vec![false; 5];
+        assert_eq!(lines.back_to(vec![true, false, false, true]), [11, 12, 14]);
+        assert_eq!((lines.take_lowest_free(), lines.most), (11, 5));
+        assert_eq!(lines.back_to(vec![]), [10, 11, 13]);
         assert_eq!((lines.take_lowest_free(), lines.most), (10, 5));
     }
 
@@ -429,29 +524,181 @@ mod tests {
 
     /// Every table of four nodes over two inputs, its last as output, but for those with more than
     /// six work lines.
+    fn small_tables() -> Vec<Vec<Node>> {
+        let mut tables = every_table(4);
+        assert_eq!(tables.len(), 4 * 8 * 18 * 34);
+        tables.retain(|nodes| work_lines(nodes, 3) <= 6);
+        assert_eq!(tables.len(), 19_474);
+        tables
+    }
+
     #[test]
     fn every_small_table_computes_its_value() {
-        let tables = every_table(4);
-        assert_eq!(tables.len(), 4 * 7 * 14 * 25);
-        let small: Vec<_> = tables.iter().filter(|nodes| work_lines(nodes, 3) <= 6).collect();
-        assert_eq!(small.len(), 9_760);
-        for nodes in small {
-            holds_from_every_start(&program(2, nodes, &[3]));
+        for nodes in small_tables() {
+            holds_from_every_start(&program(2, &nodes, &[3]));
         }
     }
 
-    /// At most s - 1 work lines and 2 s - 1 gates for a size s, and some tables reach each of them.
+    /// From every start, each line that a marked AND frees holds behind its last gate what it held
+    /// before its first, and so does every other line but the AND's target.
+    #[test]
+    fn every_marked_and_of_a_small_table_cleans_its_lines() {
+        let (mut ands, mut freed) = (0, 0);
+        for nodes in small_tables() {
+            let program = program(2, &nodes, &[3]);
+            let circuit = circuit(&program);
+            for cleaned in cleaned(&program, 0) {
+                cleans(&circuit, &cleaned);
+                ands += 1;
+                freed += cleaned.freed.len();
+            }
+        }
+        assert!(ands > 9_000 && freed > 14_000, "{ands} marked ANDs, {freed} lines");
+    }
+
+    fn cleans(circuit: &Circuit, cleaned: &Cleaned) {
+        let gates = &circuit.gates[cleaned.gates.clone()];
+        let target = gates[gates.len() / 2].target();
+        for state in 0..1_usize << circuit.lines() {
+            let before: Vec<u8> =
+                (0..circuit.lines()).map(|line| (state >> line & 1) as u8).collect();
+            let mut after = before.clone();
+            gates.iter().for_each(|gate| run::step(*gate, &mut after));
+            assert!(cleaned.freed.iter().all(|line| after[*line] == before[*line]), "{cleaned:?}");
+            after[target] = before[target];
+            assert_eq!(after, before, "{cleaned:?}");
+        }
+    }
+
+    /// The table without its marks.
+    fn unmarked(nodes: &[Node]) -> Vec<Node> {
+        let unmarked = |node: &Node| match *node {
+            Node::MarkedAnd(a, b) => Node::And(a, b),
+            node => node,
+        };
+        nodes.iter().map(unmarked).collect()
+    }
+
+    /// At most s - 1 work lines for a size s, and without marks 2 s - 1 gates, and some tables reach
+    /// each of them. Marks take no more lines, and no fewer gates.
     #[test]
     fn the_size_bounds_lines_and_gates() {
         let mut reached = [0, 0];
         for nodes in every_table(4) {
-            let (size, gates) = (size(&nodes, 3), share_gate_count(&nodes, 3));
-            let work = work_lines(&nodes, 3);
+            let without = unmarked(&nodes);
+            let (size, gates) = (size(&nodes, 3), share_gate_count(&without, 3));
+            let work = work_lines(&without, 3);
             assert!(work < size && gates < 2 * size, "{work} and {gates} of {size}, {nodes:?}");
             reached[0] += usize::from(size > 1 && work == size - 1);
             reached[1] += usize::from(size > 1 && gates == 2 * size - 1);
+            assert!(work_lines(&nodes, 3) <= work, "{nodes:?}");
+            assert!(share_gate_count(&nodes, 3) >= gates, "{nodes:?}");
         }
         assert!(reached.iter().all(|count| *count > 100), "{reached:?}");
+    }
+
+    /// Such an AND has nothing to undo, and frees no line.
+    #[test]
+    fn a_marked_and_of_inputs() {
+        let nodes = [Node::Input(0), Node::Input(1), Node::MarkedAnd(1, 0), Node::MarkedAnd(1, 1)];
+        let program = program(2, &nodes, &[2, 3]);
+        gives(&program, 0, &[Toffoli(0, 1, 2), Cnot(1, 3)]);
+        assert_eq!(cleaned(&program, 0), [Cleaned { gates: 0..1, freed: vec![] }]);
+    }
+
+    /// XOR of AND(AND(input 0, input 1), input 2) and AND(input 2, AND(input 1, input 0)), by these
+    /// two nodes.
+    fn two_of_three(first: Node, second: Node) -> Program {
+        let [and, xor] = [Node::And(0, 1), Node::Xor(4, 5)];
+        let nodes = [Node::Input(0), Node::Input(1), Node::Input(2), and, first, second, xor];
+        program(3, &nodes, &[6])
+    }
+
+    /// The second AND takes the line that the first one has given back, and what was undone once is
+    /// undone again at the end.
+    #[test]
+    fn xor_of_two_marked_ands() {
+        let (first, second) = (Toffoli(0, 1, 4), Toffoli(2, 4, 3));
+        let build = [first, second, first];
+        let both = two_of_three(Node::MarkedAnd(3, 2), Node::MarkedAnd(2, 3));
+        gives(&both, 1, &[&build[..], &build, &[first; 4]].concat());
+        let cleaned_at = |gates| Cleaned { gates, freed: vec![4] };
+        assert_eq!(cleaned(&both, 0), [cleaned_at(0..3), cleaned_at(3..6)]);
+
+        let only_first = two_of_three(Node::MarkedAnd(3, 2), Node::And(2, 3));
+        gives(&only_first, 1, &[&build[..], &[first, second], &[first; 3]].concat());
+        // The line of the first one stays in use, and the second one's alone is given back.
+        let only_second = two_of_three(Node::And(3, 2), Node::MarkedAnd(2, 3));
+        let (third, fourth) = (Toffoli(0, 1, 5), Toffoli(2, 5, 3));
+        gives(&only_second, 2, &[first, second, third, fourth, third, third, third, first]);
+        assert_eq!(cleaned(&only_second, 0), [Cleaned { gates: 2..5, freed: vec![5] }]);
+        let none = two_of_three(Node::And(3, 2), Node::And(2, 3));
+        gives(&none, 2, &[first, second, third, fourth, third, first]);
+    }
+
+    /// AND of four inputs, the lower two of its three ANDs marked or not. The first AND has nothing
+    /// to undo.
+    #[test]
+    fn marks_below_an_and() {
+        let [a, b, c] = [Toffoli(0, 1, 6), Toffoli(2, 6, 5), Toffoli(3, 5, 4)];
+        let mut four = four();
+        four.nodes[4] = Node::MarkedAnd(2, 3);
+        gives(&four, 2, &[a, b, a, c, a, b, a]);
+        four.nodes[6] = Node::MarkedAnd(4, 5);
+        gives(&four, 2, &[a, b, a, c, a, b, a, a, b, a, a, b, a]);
+        let at = |gates, freed| Cleaned { gates, freed: vec![freed] };
+        assert_eq!(cleaned(&four, 0), [at(0..3, 6), at(0..7, 5)]);
+        four.nodes[4] = Node::And(2, 3);
+        gives(&four, 2, &[a, b, c, b, a, a, b, b, a]);
+        assert_eq!(cleaned(&four, 0), [Cleaned { gates: 0..5, freed: vec![5, 6] }]);
+    }
+
+    /// The second operand takes the line behind those in use: one where the first has given its own
+    /// back, three where it has not. The most were in use within the first, and not at the end.
+    #[test]
+    fn the_most_lines_are_those_in_use_together() {
+        let inputs: Vec<Node> = (0..4).map(Node::Input).collect();
+        let three = |and: Node| [&inputs[..], &[Node::Not(0), Node::Not(1), and]].concat();
+        let of = |and: Node| {
+            program(4, &[three(and), vec![Node::Not(2), Node::And(6, 7)]].concat(), &[8])
+        };
+        let build = [Not(6), Cnot(0, 6), Not(7), Cnot(1, 7), Toffoli(6, 7, 5)];
+        let undo = [Cnot(1, 7), Not(7), Cnot(0, 6), Not(6)];
+        let last = |line| [Not(line), Cnot(2, line), Toffoli(5, line, 4), Cnot(2, line), Not(line)];
+        let marked = of(Node::MarkedAnd(4, 5));
+        gives(&marked, 3, &[&build[..], &undo, &last(6), &build[..4], &build[4..], &undo].concat());
+        assert_eq!(line_counts(&marked.nodes)[8], LineCount { most: 3, kept: 2 });
+        let unmarked = of(Node::And(4, 5));
+        gives(&unmarked, 4, &[&build[..], &last(8), &build[4..], &undo].concat());
+        assert_eq!(line_counts(&unmarked.nodes)[8], LineCount { most: 4, kept: 4 });
+    }
+
+    /// A marked node is built and undone anew at each use, on the same line.
+    #[test]
+    fn a_shared_marked_and_takes_its_lines_again() {
+        let mut nodes = [&three().nodes[..], &[Node::Xor(4, 4)]].concat();
+        nodes[4] = Node::MarkedAnd(2, 3);
+        let build = [Toffoli(0, 1, 4), Toffoli(2, 4, 3), Toffoli(0, 1, 4)];
+        let gates = [&build[..], &build, &[Toffoli(0, 1, 4); 4]].concat();
+        gives(&program(3, &nodes, &[5]), 1, &gates);
+    }
+
+    /// With n ANDs, each of the one before, all marked, a share has 2^(n + 1) - 3 gates.
+    #[test]
+    fn counts_of_nested_marks_do_not_overflow() {
+        let mut nodes = vec![Node::Input(0), Node::MarkedAnd(0, 0)];
+        nodes.extend((1..8_000).map(|before| Node::MarkedAnd(before, 0)));
+        for n in 1..=62 {
+            assert_eq!(share_gate_count(&nodes, n), (1_usize << (n + 1)) - 3);
+        }
+        assert_eq!(share_gate_count(&nodes, 63), usize::MAX - 2);
+        for n in [64, 65, 8_000] {
+            assert_eq!(gate_count(&nodes, n), usize::MAX);
+            assert_eq!(share_gate_count(&nodes, n), usize::MAX);
+        }
+        assert_eq!(gates_needed(&program(1, &nodes, &[62, 62, 2, 1])), usize::MAX);
+        assert_eq!(gates_needed(&program(1, &nodes, &[62, 61, 61, 2, 1])), usize::MAX - 2);
+        assert_eq!(work_lines(&nodes, 8_000), 7_999);
     }
 
     #[test]

@@ -45,7 +45,7 @@ pub(crate) fn fill(nodes: &[Node], inputs: &[u8], values: &mut [u8]) {
             Node::Input(j) => inputs[j],
             Node::Not(a) => 1 ^ values[a],
             Node::Xor(a, b) => values[a] ^ values[b],
-            Node::And(a, b) => values[a] & values[b],
+            Node::And(a, b) | Node::MarkedAnd(a, b) => values[a] & values[b],
         };
     }
 }
@@ -77,6 +77,18 @@ mod tests {
         assert_eq!(evaluate(&FILE, &mut values, &[1], 0), Ok(false));
         assert_eq!(values, [1, 1, 0, 0, 0, 9, 9]);
         assert_eq!(evaluate(&FILE, &mut values, &[1], 1), Ok(true));
+    }
+
+    #[test]
+    fn a_mark_changes_no_value() {
+        let mut marked = FILE;
+        marked[61] = 1;
+        for (inputs, expected) in [([0], true), ([1], false)] {
+            let (mut values, mut of_marked) = ([9; 7], [9; 7]);
+            assert_eq!(evaluate(&FILE, &mut values, &inputs, 0), Ok(expected));
+            assert_eq!(evaluate(&marked, &mut of_marked, &inputs, 0), Ok(expected));
+            assert_eq!(values, of_marked);
+        }
     }
 
     #[test]

@@ -20,6 +20,8 @@ pub enum Node {
     Xor(usize, usize),
     /// The conjunction of two nodes.
     And(usize, usize),
+    /// The same with a mark: what is built for its operands is undone behind its gate.
+    MarkedAnd(usize, usize),
 }
 
 /// A program whose file was accepted.
@@ -90,16 +92,17 @@ fn inputs(head: &[u8], nodes: &[u8], outputs: &[u8]) -> Result<usize, Refusal> {
 /// The node at an index of a program with n inputs, unless its record is bad.
 fn node(record: &[u8], index: usize, n: usize) -> Option<Node> {
     let kind = record[0];
-    let zero = record[1];
+    let mark = record[1];
     let a = usize::from(u16_at(record, 2));
     let b = usize::from(u16_at(record, 4));
-    match (kind, zero, a, b) {
+    match (kind, mark, a, b) {
         (0, 0, 0, 0) => Some(Node::Zero),
         (1, 0, 0, 0) => Some(Node::One),
         (2, 0, j, 0) if j < n => Some(Node::Input(j)),
         (3, 0, a, 0) if a < index => Some(Node::Not(a)),
         (4, 0, a, b) if a < index && b < index => Some(Node::Xor(a, b)),
         (5, 0, a, b) if a < index && b < index => Some(Node::And(a, b)),
+        (5, 1, a, b) if a < index && b < index => Some(Node::MarkedAnd(a, b)),
         _ => None,
     }
 }
@@ -134,7 +137,8 @@ pub(crate) mod tests {
         let mut next = vec![Node::Zero, Node::One, Node::Input(0), Node::Input(1)];
         for a in 0..i {
             next.push(Node::Not(a));
-            next.extend((0..i).flat_map(|b| [Node::Xor(a, b), Node::And(a, b)]));
+            let of_two = |b| [Node::Xor(a, b), Node::And(a, b), Node::MarkedAnd(a, b)];
+            next.extend((0..i).flat_map(of_two));
         }
         next
     }
@@ -169,7 +173,24 @@ pub(crate) mod tests {
         assert_eq!(node(&[3, 0, 1, 0, 0, 0], 2, 2), Some(Node::Not(1)));
         assert_eq!(node(&[4, 0, 1, 0, 0, 0], 2, 2), Some(Node::Xor(1, 0)));
         assert_eq!(node(&[5, 0, 0, 0, 1, 0], 2, 2), Some(Node::And(0, 1)));
+        assert_eq!(node(&[5, 1, 0, 0, 1, 0], 2, 2), Some(Node::MarkedAnd(0, 1)));
         assert_eq!(node(&[6, 0, 0, 0, 0, 0], 2, 2), None);
+    }
+
+    /// Each kind with fields that are good: 0 is a mark of all of them, 1 of AND alone, and no other
+    /// byte is one.
+    #[test]
+    fn only_an_and_is_marked() {
+        for kind in 0..=5 {
+            for mark in 0..=255 {
+                let read = node(&[kind, mark, 0, 0, 0, 0], 1, 1);
+                let good = mark == 0 || (kind, mark) == (5, 1);
+                assert_eq!(read.is_some(), good, "kind {kind}, mark {mark}");
+            }
+        }
+        assert_eq!(with(&[(49, 1)]).map(|program| program.nodes[2]), Ok(Node::MarkedAnd(0, 1)));
+        assert_eq!(with(&[(49, 2)]), refused(5, 2));
+        assert_eq!(with(&[(49, 2), (37, 1)]), refused(5, 0));
     }
 
     #[test]

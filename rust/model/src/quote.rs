@@ -1,7 +1,8 @@
 //! Quoting a program: causes 1 to 7, and for each output the numbers of its share.
 //!
 //! The share of a small output is built, and its gates are counted. A large one may have more gates
-//! than any memory, so there the uses of each node are counted instead, in numbers of any size.
+//! than any memory, so there the uses of each node are counted instead, in numbers of any size, and
+//! the lines from those of the operands.
 
 use crate::circuit::Gate;
 use crate::natural::Natural;
@@ -12,8 +13,9 @@ const COUNT_ENTRY: usize = 8;
 const ANSWER_ENTRY: usize = 3;
 const LARGEST_EXACT: u32 = 1_000_000;
 
-/// The largest unfolded size of an output whose share is built.
+/// The largest unfolded size of an output whose share is built, and the most gates.
 const LARGEST_BUILT: usize = 2_000;
+const MOST_BUILT: usize = 2 * LARGEST_BUILT;
 
 /// Quotes each output and gives their number. A result makes the entries of the nodes in `counts`
 /// zero and fills those of the outputs in `answers`; a refusal leaves both.
@@ -39,14 +41,19 @@ pub fn quote(file: &[u8], counts: &mut [u64], answers: &mut [u64]) -> Result<usi
 
 /// The gates, Toffolis and work lines of each output, as they are shown.
 pub fn numbers(program: &Program) -> Vec<[u64; 3]> {
-    let sizes = construct::sizes(&program.nodes);
+    let nodes = &program.nodes;
+    let (sizes, lines) = (construct::sizes(nodes), construct::line_counts(nodes));
+    let is_small =
+        |i: usize| sizes[i] <= LARGEST_BUILT && construct::share_gate_count(nodes, i) <= MOST_BUILT;
     let of_output = |k: usize| {
         let output = program.outputs[k];
-        if sizes[output] <= LARGEST_BUILT {
-            // At most 3,999 gates, far from a million.
+        if is_small(output) {
+            // Far from a million.
             built(program, k).map(|count| count as u64)
         } else {
-            counted(&program.nodes, output).map(|count| shown(&count))
+            let [gates, toffolis] = counted(nodes, output).map(|count| shown(&count));
+            let lines = lines[output].most.min(LARGEST_EXACT as usize + 1);
+            [gates, toffolis, lines as u64]
         }
     };
     (0..program.outputs.len()).map(of_output).collect()
@@ -63,24 +70,19 @@ fn built(program: &Program, k: usize) -> [usize; 3] {
     [gates.len(), toffolis, lines]
 }
 
-/// The same of an output with this node, from the uses of the nodes below it.
-fn counted(nodes: &[Node], output: usize) -> [Natural; 3] {
-    let mut counts: [Natural; 3] = Default::default();
-    let [gates, toffolis, lines] = &mut counts;
+/// The gates and Toffolis of an output with this node, from the uses of the nodes below it.
+fn counted(nodes: &[Node], output: usize) -> [Natural; 2] {
+    let mut counts: [Natural; 2] = Default::default();
+    let [gates, toffolis] = &mut counts;
     for (node, Uses { into_target, into_work_line }) in nodes.iter().zip(uses(nodes, output)) {
         // A gate on the target is in the share once, one on a work line is undone as well.
         let in_share = Natural::sum(&[&into_target, &into_work_line, &into_work_line]);
         if !matches!(node, Node::Zero | Node::Xor(..)) {
             gates.add(&in_share);
         }
-        if let Node::And(a, b) = *node {
+        if let Node::And(a, b) | Node::MarkedAnd(a, b) = *node {
             if !name_one_input(nodes[a], nodes[b]) {
                 toffolis.add(&in_share);
-            }
-            // Each use takes its lines anew, and none is given back before the share is over.
-            let taken = Natural::sum(&[&into_target, &into_work_line]);
-            for _ in built_operands(nodes, a, b) {
-                lines.add(&taken);
             }
         }
     }
@@ -100,7 +102,7 @@ fn name_one_input(a: Node, b: Node) -> bool {
     }
 }
 
-/// How often a node is built for an output.
+/// How often a node is built for an output, or undone at a marked AND.
 #[derive(Clone, Default)]
 struct Uses {
     into_target: Natural,
@@ -108,7 +110,8 @@ struct Uses {
 }
 
 /// The uses of each node up to an output's, from the output down. Only an AND builds its operands
-/// into other lines than its own, and those that are inputs not at all.
+/// into other lines than its own, and those that are inputs not at all; a marked one undoes them as
+/// well.
 fn uses(nodes: &[Node], output: usize) -> Vec<Uses> {
     let mut uses = vec![Uses::default(); output + 1];
     uses[output].into_target = Natural::one();
@@ -119,14 +122,18 @@ fn uses(nodes: &[Node], output: usize) -> Vec<Uses> {
             Node::Zero | Node::One | Node::Input(_) => vec![],
             Node::Not(a) => vec![a],
             Node::Xor(a, b) => vec![a, b],
-            Node::And(a, b) => built_operands(nodes, a, b),
+            Node::And(a, b) | Node::MarkedAnd(a, b) => built_operands(nodes, a, b),
         };
+        let both = Natural::sum(&[into_target, into_work_line]);
         for a in operands {
             let operand = &mut below[a];
-            operand.into_work_line.add(into_work_line);
             match nodes[i] {
-                Node::And(..) => operand.into_work_line.add(into_target),
-                _ => operand.into_target.add(into_target),
+                Node::And(..) => operand.into_work_line.add(&both),
+                Node::MarkedAnd(..) => operand.into_work_line.add(&Natural::sum(&[&both, &both])),
+                _ => {
+                    operand.into_target.add(into_target);
+                    operand.into_work_line.add(into_work_line);
+                }
             }
         }
     }
@@ -144,7 +151,9 @@ mod tests {
 
     /// The numbers that are counted, where they are at most so large.
     fn at_most(nodes: &[Node], output: usize, most: u32) -> [Option<u32>; 3] {
-        counted(nodes, output).map(|count| count.at_most(most))
+        let [gates, toffolis] = counted(nodes, output).map(|count| count.at_most(most));
+        let lines = u32::try_from(construct::line_counts(nodes)[output].most).ok();
+        [gates, toffolis, lines.filter(|lines| *lines <= most)]
     }
 
     /// The output's share has these numbers, built and counted.
@@ -183,6 +192,28 @@ mod tests {
         }
     }
 
+    /// Marks at each of the two ANDs of three inputs of a XOR, at none, and at an AND of two inputs,
+    /// which has nothing to undo.
+    #[test]
+    fn marked_shares_by_hand() {
+        use Node::{And, Input, MarkedAnd, Xor};
+
+        let of = |first: Node, second: Node, third: Node| {
+            let nodes = [Input(0), Input(1), first, Input(2), second, third, Xor(4, 5), Xor(5, 4)];
+            program(3, &nodes, &[6, 7, 4])
+        };
+        let (inner, outer, marked) = (And(0, 1), And(2, 3), MarkedAnd(2, 3));
+        gives(&of(inner, outer, outer), 0, [6, 6, 2]);
+        gives(&of(inner, marked, outer), 0, [8, 8, 1]);
+        gives(&of(inner, marked, outer), 1, [8, 8, 2]);
+        gives(&of(inner, marked, marked), 0, [10, 10, 1]);
+        gives(&of(inner, marked, marked), 2, [5, 5, 1]);
+        gives(&of(MarkedAnd(0, 1), outer, outer), 0, [6, 6, 2]);
+        // A CNOT is undone as well, and is no Toffoli.
+        gives(&of(And(0, 0), marked, outer), 0, [8, 2, 1]);
+        gives(&of(MarkedAnd(0, 0), marked, marked), 0, [10, 2, 1]);
+    }
+
     /// No Toffoli, by one node or by two: not on the target, and not on a work line.
     #[test]
     fn and_of_an_input_with_itself() {
@@ -196,11 +227,11 @@ mod tests {
         gives(&program, 3, [5, 1, 2]);
     }
 
-    /// Every table of five nodes over two inputs, its last as output: 392,000 of them.
+    /// Every table of five nodes over two inputs, its last as output: 1,096,704 of them.
     #[test]
     fn built_and_counted_alike_in_every_small_table() {
         let tables = every_table(5);
-        assert_eq!(tables.len(), 4 * 7 * 14 * 25 * 40);
+        assert_eq!(tables.len(), 4 * 8 * 18 * 34 * 56);
         for nodes in &tables {
             counted_as_built(&program(2, nodes, &[4]), 0);
         }
@@ -223,6 +254,46 @@ mod tests {
             let gates = construct::share_gate_count(&nodes, k);
             assert_eq!(built(&program, k)[0], gates, "output {k}");
         }
+    }
+
+    /// The same with every other AND of it marked, as far as its gates can be built.
+    #[test]
+    fn built_and_counted_alike_in_larger_trees_with_marks() {
+        let mut nodes = vec![Node::Input(0), Node::Input(1), Node::Xor(0, 1)];
+        for i in (2..14).step_by(2) {
+            nodes.extend([Node::MarkedAnd(i, i - 2), Node::And(i + 1, i)]);
+        }
+        let outputs: Vec<usize> = (0..nodes.len()).collect();
+        let program = program(2, &nodes, &outputs);
+        let small: Vec<usize> = outputs
+            .into_iter()
+            .filter(|k| construct::share_gate_count(&nodes, *k) <= 100_000)
+            .collect();
+        assert!(small.iter().any(|k| construct::share_gate_count(&nodes, *k) > MOST_BUILT));
+        for k in small {
+            counted_as_built(&program, k);
+            let gates = construct::share_gate_count(&nodes, k);
+            assert_eq!(built(&program, k)[0], gates, "output {k}");
+        }
+    }
+
+    /// Each marked AND has 2 times the gates of the one before, and 1: 2^d - 1 with depth d, and half
+    /// of them and 1 are CNOTs. All but one are undone, and a line is taken for each depth but 1.
+    #[test]
+    fn nested_marks_double_the_gates() {
+        let mut nodes = vec![Node::Input(0), Node::MarkedAnd(0, 0)];
+        nodes.extend((1..4_000).map(|before| Node::MarkedAnd(before, 0)));
+        let depths: Vec<usize> = (2..=20).chain([31, 32, 63, 64, 4_000]).collect();
+        let shown = numbers(&program(1, &nodes, &depths));
+        for (numbers, depth) in shown.into_iter().zip(depths) {
+            let [gates, toffolis] = [depth + 1, depth].map(|power| match power {
+                ..20 => (1 << power) - 3,
+                _ => 1_000_001,
+            });
+            assert_eq!(numbers, [gates, toffolis, depth as u64 - 1], "depth {depth}");
+        }
+        assert_eq!(at_most(&nodes, 31, u32::MAX), [u32::MAX - 2, (1 << 31) - 3, 30].map(Some));
+        assert_eq!(at_most(&nodes, 32, u32::MAX), [None, Some(u32::MAX - 2), Some(31)]);
     }
 
     /// 2^4000 gates; and with ANDs of ONE 2^4001 - 1 gates before undoing, two lines for each

@@ -17,7 +17,8 @@ pub struct Refusal {
     /// The cause, as numbered in document 01.
     pub number: u64,
     /// Where the cause lies: the index of the lowest bad node (5), output (6, 8) or gate (12), the
-    /// number of work lines (10) or of gates needed (11), otherwise 0.
+    /// number of work lines (10) or of gates needed (11; 3,000,001 stands for every number over
+    /// 3,000,000), otherwise 0.
     pub place: u64,
 }
 
@@ -78,8 +79,8 @@ pub struct Quote {
     pub gates: u64,
     /// The number of Toffolis among them.
     pub toffolis: u64,
-    /// The number of work lines. Each output starts with all of them free, so a circuit needs the
-    /// most of any output.
+    /// The most work lines that are in use together. Each output starts with all of them free, so a
+    /// circuit needs the most of any output.
     pub work: u64,
 }
 
@@ -89,6 +90,9 @@ pub fn exact(number: u64) -> Option<u64> {
 }
 
 /// Reads and checks a program file and gives its numbers.
+///
+/// The second byte of a node is its mark: 0, or 1 on an AND; anything else is refused with 5. Only
+/// [`compile`] and [`quote`] look at marks.
 ///
 /// `file` is only read. Refusals: 1 to 6.
 pub fn read_program(file: &[u8]) -> Result<ProgramHead, Refusal> {
@@ -119,6 +123,9 @@ pub fn evaluate(
 
 /// Compiles a program file to the circuit file that computes its outputs, and gives its length.
 ///
+/// Behind the gate of a marked AND, the gates built for its two operands follow once more, last to
+/// first, and the work lines that they took are free again.
+///
 /// - `file` is only read.
 /// - `grant` is the number of work lines that the circuit may take, at most 1,024.
 /// - `sizes` needs an entry for each node. On a result and on refusals 8 to 11, entry i is the
@@ -142,7 +149,8 @@ pub fn compile(
 }
 
 /// Counts what each output of a program file takes, without building it, and gives the number of
-/// outputs. What [`compile`] refuses with 8 to 11 is counted too.
+/// outputs. What [`compile`] refuses with 8 to 11 is counted too. Gates that are undone at a mark
+/// count as often as they are written, and work lines are the most in use together.
 ///
 /// - `file` is only read.
 /// - `counts` needs [`COUNT_ENTRY`] numbers for each node. On a result these are zero, and the

@@ -22,6 +22,9 @@
 //! | `NOT` | an operand |
 //! | `XOR`, `AND` | two operands |
 //!
+//! `marked` behind the operands of an `AND` marks it: what the circuit builds for them is undone there,
+//! and its work lines are free again. A mark saves lines and costs gates, and changes no value.
+//!
 //! At most 64 inputs, 64 outputs and 4,096 nodes. What a circuit needs of gates and work lines is
 //! not looked at here; compiling says so.
 
@@ -34,8 +37,9 @@ pub use text::{read, Fault};
 const KINDS: [(&str, usize); 6] =
     [("ZERO", 0), ("ONE", 0), ("INPUT", 1), ("NOT", 1), ("XOR", 2), ("AND", 2)];
 
-/// The place of INPUT among the kinds.
+/// The places of INPUT and AND among the kinds.
 const INPUT: usize = 2;
+const AND: usize = 5;
 
 /// The length of a program file's table of contents.
 const CONTENTS_LENGTH: u32 = 32;
@@ -52,6 +56,7 @@ pub struct Table {
 #[derive(Debug, Clone, Copy, PartialEq, Eq)]
 struct Node {
     kind: u8,
+    marked: bool,
     a: u16,
     b: u16,
 }
@@ -60,13 +65,16 @@ impl Table {
     /// The program file of the table.
     pub fn program_file(&self) -> Vec<u8> {
         let head = numbers(&[self.inputs, self.outputs.len() as u16]);
-        let node = |node: &Node| numbers(&[u16::from(node.kind), node.a, node.b]);
+        let node = |node: &Node| {
+            let kind_and_mark = u16::from_le_bytes([node.kind, u8::from(node.marked)]);
+            numbers(&[kind_and_mark, node.a, node.b])
+        };
         let nodes = self.nodes.iter().flat_map(node).collect();
         with_contents([head, nodes, numbers(&self.outputs)])
     }
 }
 
-/// The numbers, two bytes each. A kind's second byte is the one that has to be zero.
+/// The numbers, two bytes each.
 fn numbers(numbers: &[u16]) -> Vec<u8> {
     numbers.iter().flat_map(|number| number.to_le_bytes()).collect()
 }
@@ -127,6 +135,16 @@ mod tests {
             5, 0, 0, 0,
         ];
         assert_eq!(file(all), wanted);
+    }
+
+    #[test]
+    fn a_marked_and() {
+        let text = "inputs 2\n0 = INPUT 0\n1 = INPUT 1\n2 = AND 0 1 marked # both\noutput 2\n";
+        let unmarked = file(&text.replace(" marked", ""));
+        let mut wanted = unmarked.clone();
+        wanted[49] = 1;
+        assert_eq!(file(text), wanted);
+        assert_ne!(file(text), unmarked);
     }
 
     /// Lengths, starts and operands over 255 take their second byte.

@@ -1,9 +1,12 @@
-//! Makes the program file of a readable table of nodes, or the table of a function on numbers:
+//! Makes the program file of a readable table of nodes, or the table of a function, with marks or
+//! without:
 //!
 //! ```text
 //! table < and.table > and.program
 //! table adder 32 > adder32.table
 //! table less 8 > less8.table
+//! table and 32 > and32.table
+//! table and 32 marked > and32_marked.table
 //! ```
 //!
 //! The library's header says what a table is. What is wrong goes to standard error, with the line's
@@ -11,11 +14,13 @@
 
 use std::env;
 use std::io::{self, Read, Write};
+use std::ops::RangeInclusive;
 use std::process::ExitCode;
 
-use table::functions::{adder, less, MOST_BITS};
+use table::functions::{self, Form, MOST_BITS, MOST_INPUTS};
 
-const USAGE: &str = "usage: table < TABLE > PROGRAM, or table adder BITS, or table less BITS";
+const USAGE: &str = "usage: table < TABLE > PROGRAM, or table adder BITS [marked], \
+                     or table less BITS [marked], or table and INPUTS [marked]";
 
 fn main() -> ExitCode {
     let arguments: Vec<String> = env::args().skip(1).collect();
@@ -30,12 +35,18 @@ fn main() -> ExitCode {
 }
 
 fn made(arguments: &[&str]) -> Result<Vec<u8>, String> {
-    match arguments {
-        [] => program_file(),
-        ["adder", bits] => Ok(adder(number_of_bits(bits)?).into_bytes()),
-        ["less", bits] => Ok(less(number_of_bits(bits)?).into_bytes()),
-        _ => Err(USAGE.to_string()),
-    }
+    let (arguments, form) = match arguments {
+        [function @ .., "marked"] => (function, Form::Marked),
+        _ => (arguments, Form::Plain),
+    };
+    let table = match *arguments {
+        [] if form == Form::Plain => return program_file(),
+        ["adder", bits] => functions::adder(number("BITS", bits, 1..=MOST_BITS)?, form),
+        ["less", bits] => functions::less(number("BITS", bits, 1..=MOST_BITS)?, form),
+        ["and", inputs] => functions::and(number("INPUTS", inputs, 2..=MOST_INPUTS)?, form),
+        _ => return Err(USAGE.to_string()),
+    };
+    Ok(table.into_bytes())
 }
 
 /// The program file of the table on standard input.
@@ -46,10 +57,13 @@ fn program_file() -> Result<Vec<u8>, String> {
     Ok(table.program_file())
 }
 
-fn number_of_bits(word: &str) -> Result<usize, String> {
+fn number(name: &str, word: &str, range: RangeInclusive<usize>) -> Result<usize, String> {
     match word.parse() {
-        Ok(bits) if (1..=MOST_BITS).contains(&bits) => Ok(bits),
-        _ => Err(format!("BITS is a number from 1 to {MOST_BITS}, not `{word}`")),
+        Ok(number) if range.contains(&number) => Ok(number),
+        _ => {
+            let (first, last) = (range.start(), range.end());
+            Err(format!("{name} is a number from {first} to {last}, not `{word}`"))
+        }
     }
 }
 

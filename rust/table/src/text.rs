@@ -2,7 +2,7 @@
 
 use std::fmt;
 
-use crate::{Node, Table, INPUT, KINDS};
+use crate::{Node, Table, AND, INPUT, KINDS};
 
 const MOST_INPUTS: usize = 64;
 const MOST_OUTPUTS: usize = 64;
@@ -83,10 +83,11 @@ impl Reading {
             return Err(format!("there are too many nodes, {MOST_NODES} are the most"));
         }
         let kind = kind_named(kind)?;
+        let (operands, marked) = without_mark(kind, operands)?;
         let limit = if kind == INPUT { inputs } else { next };
         let operands = operands_of(kind, operands, limit)?;
         let operand = |at: usize| operands.get(at).copied().unwrap_or(0);
-        self.nodes.push(Node { kind: kind as u8, a: operand(0), b: operand(1) });
+        self.nodes.push(Node { kind: kind as u8, marked, a: operand(0), b: operand(1) });
         Ok(())
     }
 
@@ -118,6 +119,15 @@ fn kind_named(name: &str) -> Result<usize, String> {
         let names = KINDS.map(|(kind, _)| kind).join(", ");
         format!("unknown kind `{name}`, the kinds are {names}")
     })
+}
+
+/// The words behind a kind without the mark at their end, and whether it is there.
+fn without_mark<'a>(kind: usize, words: &'a [&'a str]) -> Result<(&'a [&'a str], bool), String> {
+    match words {
+        [operands @ .., "marked"] if kind == AND => Ok((operands, true)),
+        [.., "marked"] => Err(format!("{} cannot be marked, only AND can", KINDS[kind].0)),
+        _ => Ok((words, false)),
+    }
 }
 
 /// The operands of a node of this kind, each below the limit: the node itself or, for an input, n.
@@ -208,6 +218,26 @@ mod tests {
         refused(4, "2 = NOT 0 1", "NOT takes one number, not 2");
         refused(4, "2 = XOR 0", "XOR takes two numbers, not 1");
         refused(4, "2 = AND 0 1 1", "AND takes two numbers, not 3");
+    }
+
+    #[test]
+    fn marks() {
+        let marked = AND.replace("AND 0 1", "AND 0 1 marked");
+        assert_ne!(table(&marked), table(AND));
+        assert_eq!(table(&AND.replace("AND 0 1", " AND  0 1\tmarked# so")), table(&marked));
+        refused(4, "2 = XOR 0 1 marked", "XOR cannot be marked, only AND can");
+        refused(4, "2 = NOT 0 marked", "NOT cannot be marked, only AND can");
+        refused(4, "2 = INPUT 0 marked", "INPUT cannot be marked, only AND can");
+        refused(4, "2 = ONE marked", "ONE cannot be marked, only AND can");
+        refused(4, "2 = ZERO marked", "ZERO cannot be marked, only AND can");
+        refused(2, "0 = ONE marked", "ONE cannot be marked, only AND can");
+        // It stands once, in small letters, and behind two numbers.
+        refused(4, "2 = AND 0 1 marked marked", "AND takes two numbers, not 3");
+        refused(4, "2 = AND 0 1 Marked", "AND takes two numbers, not 3");
+        refused(4, "2 = AND 0 marked", "AND takes two numbers, not 1");
+        refused(4, "2 = AND marked 0", "`marked` is no number");
+        refused(4, "2 = AND 0 2 marked", "operand 2 is not lower than its node, 2");
+        refused(5, "output 2 marked", "a line is `inputs N`, `I = KIND ..` or `output I`");
     }
 
     #[test]

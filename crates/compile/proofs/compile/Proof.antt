@@ -3,8 +3,7 @@ use mathlib.Core.Path.{ap, _∙_}
 use borrow.Author.Needs.{needs}
 use Rattle.program.proofs.AcceptedLaws.{Read, read, read-refused}
 use Rattle.compile.specs.Answers.{compiled}
-use Rattle.compile.proofs.CompileLaws.{reader-refuses, list-short, sizeable, listed, sized, sizes-stored}
-use Rattle.compilation.proofs.DemandLaws.{demand-met}
+use Rattle.compile.proofs.CompileLaws.{reader-refuses, list-short, sizeable, listed, sized, sizes-stored, promises}
 use Rattle.compile.proofs.compile.Statement.{statement}
 use Rattle.compile.proofs.compile.Tie as tie
 use Rattle.compile.proofs.compile.Reads as reads
@@ -51,13 +50,13 @@ returns c =
     let e = c .before .enum-told .given .1 in
     let o = reader-refuses (a .file .now) (a .grant) (a .sizes .now) (a .area .now) _ _ (read-refused (a .file .now) (c .before .before .before .read-program .ensures) e) in
     let answer = ap compiled (c .refused .ensures _ e) ∙ o .answer in
-    (answer, (o .sizes-are, (o .area-is, demand-met (a .file .now) (a .grant) (a .sizes .now) (a .area .now) answer (o .area-is))))
+    (answer, (o .sizes-are, (o .area-is, promises (a .file .now) (a .grant) (a .sizes .now) (a .area .now) answer (o .area-is))))
 
 returns-2 : tie.Need-returns-2
 returns-2 c =
     let a = c .before .before .before .before .before .before .before .before .before .args in
     let o = list-short (a .file .now) (a .grant) (a .sizes .now) (a .area .now) (good (c .before .before .before)) (omega (arith, c .if1 .taken)) in
-    (o .answer, (o .sizes-are, (o .area-is, demand-met (a .file .now) (a .grant) (a .sizes .now) (a .area .now) (o .answer) (o .area-is))))
+    (o .answer, (o .sizes-are, (o .area-is, promises (a .file .now) (a .grant) (a .sizes .now) (a .area .now) (o .answer) (o .area-is))))
 
 node-body-requires : tie.Need-node-body-requires
 node-body-requires c κs = good (c .before .before .before) .accepts .sized .laid
@@ -80,7 +79,7 @@ returns-3 c =
     let o = sized (a .file .now) (a .grant) (a .sizes .now) (a .area .now) (good (c .before .before .before .before .before .before .before .before .before .before .before .before .before)) (c .before .before .before .before .before .before .before .before .before .before .if1 .left) in
     let filled = rw (c .before .before .before .before .before .before .before .before .before .node-body .ensures) at (c .before .before .before .before .before .before .before .fill-sizes .ensures) in
     let e = c .before .before .compile-sized .ensures in
-    (e .0 ∙ o .answer, (filled ∙ sizes-stored (a .file .now) (a .grant) (a .sizes .now) (a .area .now) (good (c .before .before .before .before .before .before .before .before .before .before .before .before .before)) ∙ o .sizes-are, (e .1 ∙ o .area-is, demand-met (a .file .now) (a .grant) (a .sizes .now) (a .area .now) (e .0 ∙ o .answer) (e .1 ∙ o .area-is))))
+    (e .0 ∙ o .answer, (filled ∙ sizes-stored (a .file .now) (a .grant) (a .sizes .now) (a .area .now) (good (c .before .before .before .before .before .before .before .before .before .before .before .before .before)) ∙ o .sizes-are, (e .1 ∙ o .area-is, promises (a .file .now) (a .grant) (a .sizes .now) (a .area .now) (e .0 ∙ o .answer) (e .1 ∙ o .area-is))))
 
 pub compile-spec : {M : Type 1} → statement M
 compile-spec =

@@ -73,7 +73,7 @@ returns-2 c =
     let h = c .before .before .before .before .before .before .before .answer .given .0 .0 in
     let end = c .before .before .before .before .before .file-length .ensures in
     let r = c .before .before .run-forwards .ensures in
-    let o = compiled-run (a .file .now) (a .grant) (a .sizes .now) (a .area .now) (a .lines .now) h (written (c .before .before .before .before .before .before .before)) (rw (k .0, k .1 .1 .0) at (k .1 .1 .1)) (rw (end, k .1 .1 .0) at (r .0)) (rw (end, k .1 .1 .0) at (r .1)) in
+    let o = compiled-run (a .file .now) (a .grant) (a .sizes .now) (a .area .now) (a .lines .now) h (written (c .before .before .before .before .before .before .before)) (rw (k .0, k .1 .1 .0) at (k .1 .1 .1 .0)) (rw (end, k .1 .1 .0) at (r .0)) (rw (end, k .1 .1 .0) at (r .1)) in
     (o .answer, (k .1 .0, (k .1 .1 .0, (o .lines-are, o .ends))))
 
 pub compile-and-run-spec : {M : Type 1} → statement M

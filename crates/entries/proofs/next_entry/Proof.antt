@@ -77,7 +77,7 @@ mul-get-entry-4 : tie.Need-mul-get-entry-4
 mul-get-entry-4 c = search needs
 
 get-entry-requires-4 : tie.Need-get-entry-requires-4
-get-entry-requires-4 c κs = first-fits (c .before .before .before .before .pre) AND (and-tree (c .before .node4 .given .1)) (and-lows (c .before .before .before .before .pre) (c .before .node4 .given .1))
+get-entry-requires-4 c κs = first-fits (c .before .before .before .before .pre) (AND (c .before .node4 .given .0 .0)) (and-tree (c .before .node4 .given .1)) (and-lows (c .before .before .before .before .pre) (c .before .node4 .given .1))
 
 cast-get-entry-5 : tie.Need-cast-get-entry-5
 cast-get-entry-5 c = search needs
@@ -86,10 +86,10 @@ mul-get-entry-5 : tie.Need-mul-get-entry-5
 mul-get-entry-5 c = search needs
 
 get-entry-requires-5 : tie.Need-get-entry-requires-5
-get-entry-requires-5 c κs = second-fits (c .before .before .before .before .before .pre) AND (and-tree (c .before .before .node4 .given .1)) (and-lows (c .before .before .before .before .before .pre) (c .before .before .node4 .given .1))
+get-entry-requires-5 c κs = second-fits (c .before .before .before .before .before .pre) (AND (c .before .before .node4 .given .0 .0)) (and-tree (c .before .before .node4 .given .1)) (and-lows (c .before .before .before .before .before .pre) (c .before .before .node4 .given .1))
 
 and-entry-requires : tie.Need-and-entry-requires
-and-entry-requires c κs = both-small (c .before .before .before .before .before .before .pre) AND (and-tree (c .before .before .before .node4 .given .1)) (and-lows (c .before .before .before .before .before .before .pre) (c .before .before .before .node4 .given .1)) (c .before .get-entry4 .ensures) (c .get-entry5 .ensures)
+and-entry-requires c κs = both-small (c .before .before .before .before .before .before .pre) (AND (c .before .before .before .node4 .given .0 .0)) (and-tree (c .before .before .before .node4 .given .1)) (and-lows (c .before .before .before .before .before .before .pre) (c .before .before .before .node4 .given .1)) (c .before .get-entry4 .ensures) (c .get-entry5 .ensures)
 
 returns : tie.Need-returns
 returns c = next-zero (c .before .before .before .before .pre) (c .before .enum-told .given .1) (c .leaf-entry .ensures)
@@ -107,7 +107,7 @@ returns-5 : tie.Need-returns-5
 returns-5 c = next-both (c .before .before .before .before .before .before .before .pre) XOR (xor-tree (c .before .before .before .before .node3 .given .1)) (xor-lows (c .before .before .before .before .before .before .before .pre) (c .before .before .before .before .node3 .given .1)) (c .before .before .get-entry2 .ensures) (c .before .get-entry3 .ensures) (c .xor-entry .ensures)
 
 returns-6 : tie.Need-returns-6
-returns-6 c = next-both (c .before .before .before .before .before .before .before .pre) AND (and-tree (c .before .before .before .before .node4 .given .1)) (and-lows (c .before .before .before .before .before .before .before .pre) (c .before .before .before .before .node4 .given .1)) (c .before .before .get-entry4 .ensures) (c .before .get-entry5 .ensures) (c .and-entry .ensures)
+returns-6 c = next-both (c .before .before .before .before .before .before .before .pre) (AND (c .before .before .before .before .node4 .given .0 .0)) (and-tree (c .before .before .before .before .node4 .given .1)) (and-lows (c .before .before .before .before .before .before .before .pre) (c .before .before .before .before .node4 .given .1)) (c .before .before .get-entry4 .ensures) (c .before .get-entry5 .ensures) (c .and-entry .ensures)
 
 pub next-entry-spec : {M : Type 1} → statement M
 next-entry-spec =

@@ -1,5 +1,8 @@
 use native.Mathlib.Omega.{arith}
-use Rattle.entry.proofs.EntryLaws.{added-small, toffoli-few, entry-and}
+use mathlib.Core.Path.{ap, _∙_}
+use Rattle.wire.specs.Limits.{mostQuoted}
+use Rattle.wire.specs.Shown.{shown}
+use Rattle.entry.proofs.EntryLaws.{toffoli-few, entry-and}
 use borrow.Author.Needs.{needs}
 use Rattle.entry.proofs.and_entry.Statement.{statement}
 use Rattle.entry.proofs.and_entry.Tie as tie
@@ -10,27 +13,29 @@ as-operand-requires c κs = search needs
 as-operand-requires-2 : tie.Need-as-operand-requires-2
 as-operand-requires-2 c κs = search needs
 
+add-still-held : tie.Need-add-still-held
+add-still-held c = search needs
+
+still-held-requires : tie.Need-still-held-requires
+still-held-requires c κs = search needs
+
+most-lines-requires : tie.Need-most-lines-requires
+most-lines-requires c κs = search needs
+
 gate-toffolis-requires : tie.Need-gate-toffolis-requires
 gate-toffolis-requires c κs = search needs
 
+add-tally-and : tie.Need-add-tally-and
+add-tally-and c = search needs
+
 tally-and-requires : tie.Need-tally-and-requires
-tally-and-requires c κs =
-    let o = added-small (c .before .before .before .pre .0) (c .before .before .as-operand .ensures) in
-    let u = added-small (c .before .before .before .pre .1) (c .before .as-operand2 .ensures) in
-    (omega arith, o .gates-few, u .gates-few)
+tally-and-requires c κs = search needs
+
+add-tally-and-2 : tie.Need-add-tally-and-2
+add-tally-and-2 c = search needs
 
 tally-and-requires-2 : tie.Need-tally-and-requires-2
-tally-and-requires-2 c κs =
-    let o = added-small (c .before .before .before .before .pre .0) (c .before .before .before .as-operand .ensures) in
-    let u = added-small (c .before .before .before .before .pre .1) (c .before .before .as-operand2 .ensures) in
-    (rw (c .before .gate-toffolis .ensures) (toffoli-few _ _), o .toffolis-few, u .toffolis-few)
-
-add-capped : tie.Need-add-capped
-add-capped c =
-    let s = c .before .before .before .before .before .before .before .pre in
-    let o = added-small (s .0) (c .before .before .before .before .before .before .as-operand .ensures) in
-    let u = added-small (s .1) (c .before .before .before .before .before .as-operand2 .ensures) in
-    omega (arith, o .lines-few, u .lines-few)
+tally-and-requires-2 c κs = (rw (c .before .before .before .before .before .gate-toffolis .ensures) (toffoli-few _ _), omega arith)
 
 capped-requires : tie.Need-capped-requires
 capped-requires c κs = search needs
@@ -38,13 +43,14 @@ capped-requires c κs = search needs
 returns : tie.Need-returns
 returns c =
     λ a b p q.
-    entry-and a b p q
-    (c .before .before .before .before .before .before .before .as-operand .ensures)
-    (c .before .before .before .before .before .before .as-operand2 .ensures)
-    (c .before .before .before .before .before .gate-toffolis .ensures)
+    entry-and a b p q _
+    (c .before .before .before .before .before .before .before .before .before .before .before .before .before .as-operand .ensures .0)
+    (c .before .before .before .before .before .before .before .before .before .before .before .before .as-operand2 .ensures .0)
+    (c .before .before .before .before .before .before .before .gate-toffolis .ensures)
     (c .before .before .before .before .tally-and .ensures)
-    (c .before .before .before .tally-and2 .ensures)
-    (c .capped .ensures)
+    (c .before .tally-and2 .ensures)
+    (c .capped .ensures ∙ ap (shown mostQuoted) (c .before .before .before .before .before .before .before .before .before .still-held .ensures))
+    (c .before .before .before .before .before .before .before .before .most-lines .ensures)
 
 pub and-entry-spec : {M : Type 1} → statement M
 and-entry-spec =
@@ -52,9 +58,13 @@ and-entry-spec =
     (tie.spec
     as-operand-requires
     as-operand-requires-2
+    add-still-held
+    still-held-requires
+    most-lines-requires
     gate-toffolis-requires
+    add-tally-and
     tally-and-requires
+    add-tally-and-2
     tally-and-requires-2
-    add-capped
     capped-requires
     returns)

@@ -20,7 +20,7 @@ returns c =
     let a = c .before .before .before .before .before .before .before .before .before .before .before .args in
     let e = c .before .before .before .before .before .compile .ensures in
     let r = c .compile-answer .ensures in
-    (compiled-shown (a .file .now) (a .grant) (a .sizes .now) (a .area .now) (e .0) r, (e .1 .0, (e .1 .1 .0, demand-exported (c .before .before .before .before .before .compile .result) (e .1 .1 .1) r)))
+    (compiled-shown (a .file .now) (a .grant) (a .sizes .now) (a .area .now) (e .0) r, (e .1 .0, (e .1 .1 .0, demand-exported (c .before .before .before .before .before .compile .result) (e .1 .1 .1 .0) r)))
 
 pub oracle-compile-spec : {M : Type 1} → statement M
 oracle-compile-spec =

@@ -7,10 +7,10 @@ use lib.ListN.{length}
 use Rattle.shares.proofs.ShareLoop.{Writing, writing-start, writing-room, writing-next, writing-all}
 
 abbrev Inv-loop : tie.InvT-loop
-Inv-loop nodes outputs inputs area₀ free gates₀ k₀ area gates k = Writing nodes outputs inputs area₀ area gates k
+Inv-loop nodes outputs inputs area₀ free pool gates₀ k₀ area gates k = Writing nodes outputs inputs area₀ area gates k
 
 abbrev μ-loop : tie.MeasureT-loop
-μ-loop nodes outputs inputs area₀ free gates₀ k₀ area gates k = length outputs / 2 - k
+μ-loop nodes outputs inputs area₀ free pool gates₀ k₀ area gates k = length outputs / 2 - k
 
 add-free : tie.Need-add-free Inv-loop μ-loop
 add-free c = omega (arith, c .before .before .before .pre .lines)

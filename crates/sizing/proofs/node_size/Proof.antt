@@ -107,7 +107,7 @@ returns-5 c ts e =
 returns-6 : tie.Need-returns-6
 returns-6 c ts e =
     let o = c .before .before .before .before .node3 .given in
-    rw (o .1) (next-and (o .0 .0) (o .0 .1 .0) (and-operands _ _ (c .before .before .before .before .before .before .before .pre .1) (o .1)) (c .joined3 .ensures) ts e)
+    rw (o .1) (next-and (o .0 .1 .0) (o .0 .1 .1 .0) (and-operands _ _ (c .before .before .before .before .before .before .before .pre .1) (o .1)) (c .joined3 .ensures) (o .0 .0) ts e)
 
 pub node-size-spec : {M : Type 1} → statement M
 node-size-spec =

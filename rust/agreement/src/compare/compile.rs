@@ -1,7 +1,7 @@
 //! compile, both lent areas before and after included.
 
 use model::construct;
-use model::program::Node::{And, Input, Not, One, Xor, Zero};
+use model::program::Node::{And, Input, MarkedAnd, Not, One, Xor, Zero};
 
 use super::{MOST_BYTES, MOST_NODES, NO_GATES};
 use crate::compare::read;
@@ -22,6 +22,9 @@ pub const TOO_HIGH: [u64; 10] = [
     1 << 63,
     u64::MAX,
 ];
+
+/// The largest number of gates that refusal 11 shows, which stands for every one above 3,000,000.
+pub const OVER: u64 = 3_000_001;
 
 /// What one call is given.
 #[derive(Debug)]
@@ -107,7 +110,7 @@ fn holds_sizes(case: &Case, sizes: &[u16]) {
         let unfolded = match *node {
             Zero | One | Input(_) => 1,
             Not(a) => 1 + size(a),
-            Xor(a, b) | And(a, b) => 1 + size(a) + size(b),
+            Xor(a, b) | And(a, b) | MarkedAnd(a, b) => 1 + size(a) + size(b),
         };
         assert_eq!(size(i), unfolded.min(16_385), "the size of node {i}, {}", case.describe());
     }
@@ -130,16 +133,15 @@ fn reads_back(case: &Case, written: &[u8]) {
 }
 
 /// The work lines and the bytes that the circuit of a program file needs, where no output is too
-/// large.
+/// large. More than 3,000,000 gates count as one more than that.
 pub fn needs(file: &[u8]) -> Option<(u64, usize)> {
     let program = model::program::read(file).ok()?;
     let sizes = construct::sizes(&program.nodes);
     if program.outputs.iter().any(|i| sizes[*i] > 16_384) {
         return None;
     }
-    let gates = program.outputs.iter().map(|i| construct::share_gate_count(&program.nodes, *i));
-    let length = NO_GATES + 8 * gates.sum::<usize>();
-    Some((construct::most_work_lines(&program) as u64, length))
+    let gates = construct::gates_needed(&program).min(OVER as usize);
+    Some((construct::most_work_lines(&program) as u64, NO_GATES + 8 * gates))
 }
 
 /// A random call on this file: mostly a list, a grant and an area that are enough.

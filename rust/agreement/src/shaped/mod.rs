@@ -4,6 +4,7 @@
 pub mod bad_calls;
 pub mod circuit;
 mod contents;
+pub mod marks;
 pub mod operands;
 pub mod program;
 

@@ -27,7 +27,13 @@ pub fn of_one_output() -> Vec<Example> {
 }
 
 /// A program of one output, its last node, with these work lines and gates.
-fn example(name: &'static str, inputs: u16, nodes: &[Node], work: u16, gates: &[Gate]) -> Example {
+pub(super) fn example(
+    name: &'static str,
+    inputs: u16,
+    nodes: &[Node],
+    work: u16,
+    gates: &[Gate],
+) -> Example {
     let last = nodes.len() as u16 - 1;
     Example {
         name,

@@ -3,7 +3,7 @@
 use super::contents::{self, Format};
 use super::{accepted, circuit, refused, Shaped};
 use crate::layout::Layout;
-use crate::program::{and, input, node, not, xor, Node, Program, ONE, ZERO};
+use crate::program::{and, input, marked, node, not, xor, Node, Program, ONE, ZERO};
 
 /// The whole case of 01: n = 2, nodes INPUT 0, INPUT 1, AND 0 1, output 2.
 pub const WHOLE_CASE: [u8; 56] = [
@@ -37,7 +37,8 @@ pub fn all() -> Vec<Shaped> {
         body_within_another(),
         node_lengths(),
         output_lengths(),
-        kinds_and_zero_bytes(),
+        kinds(),
+        marks(),
         unused_fields(),
         operands_of_not(),
         operands_of_xor_and_and(),
@@ -71,6 +72,16 @@ pub fn and_of_four() -> Program {
     Program::new(4, &nodes, &[6])
 }
 
+/// The XOR of two ANDs of three inputs, which are marked or not.
+pub fn two_ands_of_three(are_marked: bool) -> Program {
+    let mut nodes: Vec<Node> = (0..6).map(input).collect();
+    nodes.extend([and(0, 1), and(6, 2), and(3, 4), and(8, 5), xor(7, 9)]);
+    for outer in [7, 9] {
+        nodes[outer].mark = u8::from(are_marked);
+    }
+    Program::new(6, &nodes, &[10])
+}
+
 /// XOR of input 0 with itself.
 pub fn xor_with_itself() -> Program {
     Program::new(1, &[input(0), xor(0, 0)], &[1])
@@ -102,6 +113,8 @@ fn accepted_programs() -> Vec<Shaped> {
         accepted("XOR of an input with itself", xor_with_itself().bytes(), [1, 1, 0, 2]),
         accepted("output ZERO", output_zero().bytes(), [0, 1, 0, 1]),
         accepted("the XOR chain", xor_chain().bytes(), [0, 3, 0, 16]),
+        accepted("XOR of two marked ANDs", two_ands_of_three(true).bytes(), [6, 1, 0, 11]),
+        accepted("the same without marks", two_ands_of_three(false).bytes(), [6, 1, 0, 11]),
     ]
 }
 
@@ -186,27 +199,48 @@ fn at_4095(last: Node) -> Vec<u8> {
     Program::new(64, &nodes, &[4095]).bytes()
 }
 
-fn kinds_and_zero_bytes() -> Vec<Shaped> {
-    vec![
-        accepted("ZERO", at_3(ZERO), [2, 1, 0, 5]),
-        accepted("ONE", at_3(ONE), [2, 1, 0, 5]),
-        accepted("INPUT", at_3(input(0)), [2, 1, 0, 5]),
-        accepted("NOT", at_3(not(0)), [2, 1, 0, 5]),
-        accepted("XOR", at_3(xor(0, 1)), [2, 1, 0, 5]),
-        accepted("AND", at_3(and(0, 1)), [2, 1, 0, 5]),
-        refused("kind 6", at_3(node(6, 0, 0)), 5, 3),
-        refused("kind 7", at_3(node(7, 0, 0)), 5, 3),
-        refused("kind 128", at_3(node(128, 0, 0)), 5, 3),
-        refused("kind 255", at_3(node(255, 0, 0)), 5, 3),
-        refused("ZERO, zero byte 1", at_3(ZERO.with_zero_byte(1)), 5, 3),
-        refused("ONE, zero byte 1", at_3(ONE.with_zero_byte(1)), 5, 3),
-        refused("INPUT, zero byte 1", at_3(input(0).with_zero_byte(1)), 5, 3),
-        refused("NOT, zero byte 1", at_3(not(0).with_zero_byte(1)), 5, 3),
-        refused("XOR, zero byte 1", at_3(xor(0, 1).with_zero_byte(1)), 5, 3),
-        refused("AND, zero byte 1", at_3(and(0, 1).with_zero_byte(1)), 5, 3),
-        refused("zero byte 128", at_3(ZERO.with_zero_byte(128)), 5, 3),
-        refused("zero byte 255", at_3(xor(0, 1).with_zero_byte(255)), 5, 3),
-    ]
+/// A good node of each kind for five nodes and two inputs, the fourth.
+const EACH_KIND: [(&str, Node); 6] = [
+    ("ZERO", ZERO),
+    ("ONE", ONE),
+    ("INPUT", input(0)),
+    ("NOT", not(0)),
+    ("XOR", xor(0, 1)),
+    ("AND", and(0, 1)),
+];
+
+fn kinds() -> Vec<Shaped> {
+    let mut files: Vec<Shaped> =
+        EACH_KIND.map(|(kind, good)| accepted(kind, at_3(good), [2, 1, 0, 5])).into();
+    for kind in [6, 7, 128, 255] {
+        files.push(refused(format!("kind {kind}"), at_3(node(kind, 0, 0)), 5, 3));
+    }
+    files
+}
+
+/// The mark 1 is good on an AND, and no other but 0 on any node.
+fn marks() -> Vec<Shaped> {
+    let mut files = vec![
+        accepted("AND, mark 1", at_3(marked(0, 1)), [2, 1, 0, 5]),
+        accepted("AND of a node with itself, mark 1", at_3(marked(2, 2)), [2, 1, 0, 5]),
+        accepted("node 4095, AND, mark 1", at_4095(marked(0, 4094)), [64, 1, 0, 4096]),
+        refused("node 4095, AND, mark 2", at_4095(and(0, 4094).with_mark(2)), 5, 4095),
+        refused("node 4095, XOR, mark 1", at_4095(xor(0, 4094).with_mark(1)), 5, 4095),
+        refused("ZERO as node 0, mark 1", at_0(ZERO.with_mark(1)), 5, 0),
+        refused("ONE as node 0, mark 255", at_0(ONE.with_mark(255)), 5, 0),
+        refused("AND, mark 1, a itself", at_3(marked(3, 0)), 5, 3),
+        refused("AND, mark 1, b itself", at_3(marked(0, 3)), 5, 3),
+        refused("kind 6, mark 1", at_3(BAD.with_mark(1)), 5, 3),
+    ];
+    for (kind, good) in EACH_KIND {
+        for mark in [1, 2, 3, 5, 128, 129, 254, 255] {
+            if (kind, mark) != ("AND", 1) {
+                let name = format!("{kind}, mark {mark}");
+                files.push(refused(name, at_3(good.with_mark(mark)), 5, 3));
+            }
+        }
+    }
+    files
 }
 
 fn unused_fields() -> Vec<Shaped> {
@@ -308,10 +342,16 @@ fn lowest_bad_nodes() -> Vec<Shaped> {
         refused("all nodes bad", program(2, &[BAD; 4]), 5, 0),
         refused("an operand at 1, then a kind at 2", program(2, &[ONE, not(1), BAD]), 5, 1),
         refused(
-            "an input at 1, then a zero byte at 2, then an unused field at 3",
-            program(2, &[ONE, input(2), ONE.with_zero_byte(1), node(0, 1, 0)]),
+            "an input at 1, then a mark at 2, then an unused field at 3",
+            program(2, &[ONE, input(2), ONE.with_mark(1), node(0, 1, 0)]),
             5,
             1,
+        ),
+        refused(
+            "a good mark at 1, then a bad one at 2, then a kind at 3",
+            program(2, &[ONE, marked(0, 0), xor(0, 0).with_mark(1), BAD]),
+            5,
+            2,
         ),
         refused("a bad node that no output needs", program(2, &[ONE, ONE, not(2)]), 5, 2),
         refused("a node that uses a bad one", program(2, &[ONE, not(1), not(1)]), 5, 1),

@@ -6,6 +6,9 @@ use super::{Gate, Refused, GATES_START, GATE_LENGTH, MOST_GATES};
 const LARGEST_SIZE: u16 = 16_384;
 const MOST_WORK_LINES: u64 = 1024;
 
+/// The largest number of gates shown, which stands for every one above 3,000,000.
+const OVER: usize = 3_000_001;
+
 /// Compiles a program file and gives the length of the circuit file.
 pub fn compile(
     file: &[u8],
@@ -27,7 +30,7 @@ pub fn compile(
     for output in program.outputs() {
         let count = count(&program, output);
         lines = lines.max(count.lines);
-        gates += 2 * count.gates - count.own;
+        gates = capped(gates + 2 * count.gates - count.own);
     }
     if lines as u64 > grant {
         return Err((10, lines as u64));
@@ -51,36 +54,55 @@ fn fill_sizes(program: &Program, sizes: &mut [u16]) {
             Node::Zero | Node::One | Node::Input(_) => 1,
             Node::Not(a) => 1 + size(a),
             // At most 1 and 2 times 16,385, which is below 65,536.
-            Node::Xor(a, b) | Node::And(a, b) => 1 + size(a) + size(b),
+            Node::Xor(a, b) | Node::And { a, b, .. } => 1 + size(a) + size(b),
         };
         sizes[i] = unfolded.min(LARGEST_SIZE + 1);
     }
 }
 
-/// What building a node takes: gates, those of them on the target it is built into, work lines.
+fn capped(gates: usize) -> usize {
+    gates.min(OVER)
+}
+
+/// What building a node takes: gates, capped, and those of them on the target it is built into; the
+/// most work lines that are in use together, and those that stay in use.
 struct Count {
     gates: usize,
     own: usize,
     lines: usize,
+    kept: usize,
 }
 
-const NOTHING: Count = Count { gates: 0, own: 0, lines: 0 };
+const NOTHING: Count = Count { gates: 0, own: 0, lines: 0, kept: 0 };
+
+impl Count {
+    /// Of one node, and of another that is built next.
+    fn then(self, next: Count) -> Count {
+        Count {
+            gates: capped(self.gates + next.gates),
+            own: self.own + next.own,
+            lines: self.lines.max(self.kept + next.lines),
+            kept: self.kept + next.kept,
+        }
+    }
+}
 
 fn count(program: &Program, node: u16) -> Count {
     match program.node(node) {
         Node::Zero => NOTHING,
-        Node::One | Node::Input(_) => Count { gates: 1, own: 1, lines: 0 },
+        Node::One | Node::Input(_) => Count { gates: 1, own: 1, ..NOTHING },
         Node::Not(a) => {
             let a = count(program, a);
-            Count { gates: a.gates + 1, own: a.own + 1, ..a }
+            Count { gates: capped(a.gates + 1), own: a.own + 1, ..a }
         }
-        Node::Xor(a, b) => {
-            let (a, b) = (count(program, a), count(program, b));
-            Count { gates: a.gates + b.gates, own: a.own + b.own, lines: a.lines + b.lines }
-        }
-        Node::And(a, b) => {
-            let (a, b) = (count_control(program, a), count_control(program, b));
-            Count { gates: a.gates + b.gates + 1, own: 1, lines: a.lines + b.lines }
+        Node::Xor(a, b) => count(program, a).then(count(program, b)),
+        Node::And { a, b, marked } => {
+            let operands = count_control(program, a).then(count_control(program, b));
+            if marked {
+                Count { gates: capped(2 * operands.gates + 1), own: 1, kept: 0, ..operands }
+            } else {
+                Count { gates: capped(operands.gates + 1), own: 1, ..operands }
+            }
         }
     }
 }
@@ -91,7 +113,7 @@ fn count_control(program: &Program, operand: u16) -> Count {
         return NOTHING;
     }
     let built = count(program, operand);
-    Count { lines: built.lines + 1, ..built }
+    Count { lines: built.lines + 1, kept: built.kept + 1, ..built }
 }
 
 fn write_start(start: &mut [u8], program: &Program, work: u16, gates_length: u32) {
@@ -137,13 +159,18 @@ impl Share<'_> {
                 self.build(program, a, target);
                 self.build(program, b, target);
             }
-            Node::And(a, b) => {
+            Node::And { a, b, marked } => {
+                let (start, free) = (self.count, self.free);
                 let a = self.control(program, a);
                 let b = self.control(program, b);
                 if a == b {
                     self.push(2, a, 0, target);
                 } else {
                     self.push(3, a.min(b), a.max(b), target);
+                }
+                if marked {
+                    self.undo_operands(start);
+                    self.free = free;
                 }
             }
         }
@@ -157,6 +184,16 @@ impl Share<'_> {
         let line = self.take();
         self.build(program, operand, line);
         line
+    }
+
+    /// Appends the gates from the start to the one before the last, in the other order.
+    fn undo_operands(&mut self, start: usize) {
+        let (built, rest) = self.gates.split_at_mut(self.count);
+        let operands = &built[start..built.len() - 1];
+        for (to, gate) in rest.iter_mut().zip(operands.iter().rev()) {
+            *to = *gate;
+        }
+        self.count += operands.len();
     }
 
     /// Appends the gates written so far, the last one first, but for those of the target.

@@ -14,7 +14,7 @@ pub enum Node {
     Input(u16),
     Not(u16),
     Xor(u16, u16),
-    And(u16, u16),
+    And { a: u16, b: u16, marked: bool },
 }
 
 /// A program whose file was accepted. The nodes stay in the file.
@@ -37,7 +37,7 @@ impl<'a> Program<'a> {
             2 => Node::Input(a),
             3 => Node::Not(a),
             4 => Node::Xor(a, b),
-            _ => Node::And(a, b),
+            _ => Node::And { a, b, marked: record[1] == 1 },
         }
     }
 
@@ -85,7 +85,7 @@ pub fn evaluate(
             Node::Input(j) => inputs[usize::from(j)],
             Node::Not(a) => 1 ^ value(a),
             Node::Xor(a, b) => value(a) ^ value(b),
-            Node::And(a, b) => value(a) & value(b),
+            Node::And { a, b, .. } => value(a) & value(b),
         };
     }
     Ok(values[usize::from(node)] == 1)
@@ -118,14 +118,17 @@ pub fn read(file: &[u8]) -> Result<Program<'_>, Refused> {
     Ok(program)
 }
 
-/// The kind, whose second byte has to be zero, and the fields.
+/// AND with its mark, as the two bytes are read.
+const MARKED_AND: u16 = 0x105;
+
+/// The kind, whose second byte is the mark, and the fields.
 fn is_good(record: &Record, index: u16, n: u16) -> bool {
     let [kind, a, b] = [0, 2, 4].map(|at| u16_at(record, at));
     match kind {
         0 | 1 => a == 0 && b == 0,
         2 => a < n && b == 0,
         3 => a < index && b == 0,
-        4 | 5 => a < index && b < index,
+        4 | 5 | MARKED_AND => a < index && b < index,
         _ => false,
     }
 }

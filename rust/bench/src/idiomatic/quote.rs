@@ -35,7 +35,7 @@ fn fill(program: &Program, entries: &mut [Entry]) {
             Node::Input(j) => Count { own: 1, input: u64::from(j) + 1, ..Count::default() },
             Node::Not(a) => count(a).not(),
             Node::Xor(a, b) => count(a).xor(count(b)),
-            Node::And(a, b) => count(a).and(count(b)),
+            Node::And { a, b, marked } => count(a).and(count(b), marked),
         };
         entries[i] = count.entry();
     }
@@ -46,8 +46,9 @@ fn capped(count: u64) -> u64 {
 }
 
 /// What building a node takes, each number capped: gates on the target it is built into and gates
-/// on work lines, the same of Toffolis, and work lines. And the input that the node is, from 1, or 0
-/// for any other node: what it takes as an operand of AND is known without looking at it again.
+/// on work lines, the same of Toffolis, the most work lines that are in use together, and those that
+/// stay in use. And the input that the node is, from 1, or 0 for any other node: what it takes as an
+/// operand of AND is known without looking at it again.
 #[derive(Default)]
 struct Count {
     own: u64,
@@ -55,17 +56,18 @@ struct Count {
     own_toffolis: u64,
     other_toffolis: u64,
     lines: u64,
+    kept: u64,
     input: u64,
 }
 
 impl Count {
-    fn from(&[own, others, own_toffolis, other_toffolis, lines, input, ..]: &Entry) -> Count {
-        Count { own, others, own_toffolis, other_toffolis, lines, input }
+    fn from(&[own, others, own_toffolis, other_toffolis, lines, kept, input, _]: &Entry) -> Count {
+        Count { own, others, own_toffolis, other_toffolis, lines, kept, input }
     }
 
     fn entry(self) -> Entry {
-        let Count { own, others, own_toffolis, other_toffolis, lines, input } = self;
-        [own, others, own_toffolis, other_toffolis, lines, input, 0, 0]
+        let Count { own, others, own_toffolis, other_toffolis, lines, kept, input } = self;
+        [own, others, own_toffolis, other_toffolis, lines, kept, input, 0]
     }
 
     fn gates(&self) -> u64 {
@@ -86,21 +88,25 @@ impl Count {
             others: capped(self.others + b.others),
             own_toffolis: capped(self.own_toffolis + b.own_toffolis),
             other_toffolis: capped(self.other_toffolis + b.other_toffolis),
-            lines: capped(self.lines + b.lines),
+            lines: self.lines.max(capped(self.kept + b.lines)),
+            kept: capped(self.kept + b.kept),
             input: 0,
         }
     }
 
-    /// The last gate is a Toffoli, unless both operands are one input.
-    fn and(self, b: Count) -> Count {
+    /// The last gate is a Toffoli, unless both operands are one input. With a mark the others are
+    /// there once more, and no line stays in use.
+    fn and(self, b: Count, marked: bool) -> Count {
         let is_toffoli = self.input == 0 || self.input != b.input;
         let (a, b) = (self.control(), b.control());
+        let times = 1 + u64::from(marked);
         Count {
             own: 1,
-            others: capped(a.gates + b.gates),
+            others: capped(times * (a.gates + b.gates)),
             own_toffolis: u64::from(is_toffoli),
-            other_toffolis: capped(a.toffolis + b.toffolis),
-            lines: capped(a.lines + b.lines),
+            other_toffolis: capped(times * (a.toffolis + b.toffolis)),
+            lines: capped(a.lines.max(a.kept + b.lines)),
+            kept: if marked { 0 } else { capped(a.kept + b.kept) },
             input: 0,
         }
     }
@@ -110,7 +116,7 @@ impl Count {
     fn control(self) -> Control {
         if self.input == 0 {
             let (gates, toffolis) = (self.gates(), self.toffolis());
-            Control { gates, toffolis, lines: self.lines + 1 }
+            Control { gates, toffolis, lines: self.lines + 1, kept: self.kept + 1 }
         } else {
             Control::default()
         }
@@ -124,10 +130,11 @@ impl Count {
     }
 }
 
-/// Gates, Toffolis and work lines of an operand of AND.
+/// Gates, Toffolis and work lines of an operand of AND, and those of the lines that stay in use.
 #[derive(Default)]
 struct Control {
     gates: u64,
     toffolis: u64,
     lines: u64,
+    kept: u64,
 }

@@ -104,7 +104,7 @@ returns-5 c ts e =
 returns-6 : tie.Need-returns-6
 returns-6 c ts e =
     let o = c .before .before .before .before .node4 .given in
-    rw (o .1) (next-and _ (o .0 .0) (o .0 .1 .0) (c .and-bits .ensures) ts e)
+    rw (o .1) (next-and _ (o .0 .0) (o .0 .1 .0) (o .0 .1 .1 .0) (c .and-bits .ensures) ts e)
 
 pub node-value-spec : {M : Type 1} → statement M
 node-value-spec =

@@ -10,6 +10,12 @@ mul-at c = search needs
 shared-slice-read-node-of : tie.Need-shared-slice-read-node-of
 shared-slice-read-node-of c = search needs
 
+add-node-of : tie.Need-add-node-of
+add-node-of c = search needs
+
+shared-slice-read-node-of-2 : tie.Need-shared-slice-read-node-of-2
+shared-slice-read-node-of-2 c = search needs
+
 add-get16 : tie.Need-add-get16
 add-get16 c = search needs
 
@@ -35,6 +41,8 @@ node-at-spec =
     (tie.spec
     mul-at
     shared-slice-read-node-of
+    add-node-of
+    shared-slice-read-node-of-2
     add-get16
     get16-requires
     add-get16-2

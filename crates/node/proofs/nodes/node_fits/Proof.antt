@@ -25,18 +25,24 @@ get16-requires-2 c κs = search needs
 operands-fit-requires : tie.Need-operands-fit-requires
 operands-fit-requires c κs = search needs
 
-add-both : tie.Need-add-both
-add-both c = search needs
+shared-slice-read-mark-fits : tie.Need-shared-slice-read-mark-fits
+shared-slice-read-mark-fits c = search needs
 
-shared-slice-read-both : tie.Need-shared-slice-read-both
-shared-slice-read-both c = search needs
+add-mark-fits : tie.Need-add-mark-fits
+add-mark-fits c = search needs
+
+shared-slice-read-mark-fits-2 : tie.Need-shared-slice-read-mark-fits-2
+shared-slice-read-mark-fits-2 c = search needs
+
+mark-fits-requires : tie.Need-mark-fits-requires
+mark-fits-requires c κs = search needs
 
 both-requires : tie.Need-both-requires
 both-requires c κs = search needs
 
 returns : tie.Need-returns
 unfolding nodeFits
-returns c = c .both .ensures ∙ rw (c .before .before .operands-fit .ensures, c .before .before .before .before .get16 .ensures, c .before .before .before .get162 .ensures) refl
+returns c = c .both .ensures ∙ rw (c .before .mark-fits .ensures, c .before .before .before .before .operands-fit .ensures, c .before .before .before .before .before .before .get16 .ensures, c .before .before .before .before .before .get162 .ensures) refl
 
 pub node-fits-spec : {M : Type 1} → statement M
 node-fits-spec =
@@ -49,7 +55,9 @@ node-fits-spec =
     add-get16-2
     get16-requires-2
     operands-fit-requires
-    add-both
-    shared-slice-read-both
+    shared-slice-read-mark-fits
+    add-mark-fits
+    shared-slice-read-mark-fits-2
+    mark-fits-requires
     both-requires
     returns)

@@ -1,0 +1,3 @@
+pub mod FreeingCases
+pub mod FreeingLaws
+pub mod UnmarkedLaws
