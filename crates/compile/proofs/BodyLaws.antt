@@ -15,7 +15,6 @@ use Rattle.circuit.specs.Format.{fileLength}
 use Rattle.node.specs.Exprs.{Expr, size}
 use Rattle.program.specs.Programs.{outputTree}
 use Rattle.program.specs.Reading.{outputAt, programOf}
-use Rattle.node.specs.Trees.{trees}
 use Rattle.program.proofs.AcceptedLaws.{Accepted, inputs-is}
 use Rattle.program.proofs.BodyLaws.{body-outputs, names-node, nodes-ordered, named-tree}
 use Rattle.program.proofs.ReadingLaws.{outputs-counted}

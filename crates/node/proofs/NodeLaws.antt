@@ -6,7 +6,7 @@ use mathlib.Core.Bool.{Bool, true, false, _&&_, false≢true}
 use mathlib.Core.List.{List}
 use lib.ListN.{getD}
 use lib.Dec.{eqb, leb, ltb}
-use borrow.Author.Tests.{eq-eqb, ne-eqb, lt-leb, ltb-true, eqb-false}
+use borrow.Author.Tests.{ne-eqb, le-leb, lt-leb, ltb-true, eqb-true, eqb-false}
 use Rattle.refusal.specs.Answers.{result}
 use Rattle.wire.specs.Bytes.{at16}
 use Rattle.refusal.specs.declared.causes.Refusal.the-variants as cause
@@ -34,15 +34,20 @@ module _ (n : ℕ) (body : List ℕ) (i : ℕ) {r : NodeRead} (e : nodeRead r �
   unfolding readNode
   read-index {k} g = sym (failed-place (nodeAt body i) (nodeFits n body i) (cause.Node i) 5 k (sym e ∙ ap nodeRead g))
 
--- the test of a mark: 0 or 1 on an AND, and 0 on any other node
+-- the test of a mark: 0 is right for every node, and any other only as 1 on an AND
 module _ (kind mark : ℕ) where
-  pub mark-of-and : kind ≡ 5 → leb mark 1 ≡ markFits kind mark
+  pub no-mark-fits : mark ≡ 0 → true ≡ markFits kind mark
   unfolding markFits
-  mark-of-and e = rw (eq-eqb kind 5 e) refl
+  no-mark-fits e = rw e (by-test (eqb kind 5) (λ k. rw k refl) (λ k. rw k refl))
 
-  pub mark-of-other : (kind ≡ 5 → ⊥) → eqb mark 0 ≡ markFits kind mark
+  pub some-mark-fits : (mark ≡ 0 → ⊥) → (eqb kind 5 && eqb mark 1) ≡ markFits kind mark
   unfolding markFits
-  mark-of-other e = rw (ne-eqb kind 5 e) refl
+  some-mark-fits e =
+      by-test (eqb kind 5)
+      (λ k. by-test (eqb mark 1)
+      (λ m. rw (k, m, le-leb mark 1 (omega (arith, eqb-true mark 1 m))) refl)
+      (λ m. rw (k, m, lt-leb mark 1 (omega (arith, eqb-false mark 1 m, e))) refl))
+      (λ k. rw (k, ne-eqb mark 0 e) refl)
 
 -- the operands of a node in order are lower, and its input is below n
 module _ (n i kind mark a b : ℕ) where

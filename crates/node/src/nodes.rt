@@ -61,14 +61,15 @@ pub fn node_at(body: &[u8], i: usize) -> Node
     )
 }
 
-// Whether the mark is right for a node of this kind.
+// Whether the mark is right for a node of this kind. 0 is tested first: it is right for every kind, and
+// most nodes have it.
 fn mark_fits(kind: u8, mark: u8) -> bool
     ensures { λ r. ⌜ r ≡ markFits kind mark ⌝ }
 {
-    if kind == 5 {
-        return mark <= 1;
+    if mark == 0 {
+        return true;
     }
-    mark == 0
+    both(kind == 5, mark == 1)
 }
 
 // Whether a and b are right for node i of this kind, where there are so many inputs.

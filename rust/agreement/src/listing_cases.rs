@@ -1,5 +1,6 @@
-//! The cases of the listing program: data files in `crates/`, and the text that is printed for
-//! them. `cargo run -p agreement --bin listing_cases` writes them all anew.
+//! The cases of the listing program: data files in `crates/`, their names in the order in which
+//! they are listed, and the text that is printed for them. `cargo run -p agreement --bin
+//! listing_cases` writes them all anew.
 //!
 //! A grant of 1,024 is never too high and a list of 4,096 entries never too short, so causes 9 and
 //! 7 have no case.
@@ -43,6 +44,8 @@ pub fn files() -> Vec<(PathBuf, Vec<u8>)> {
     let folder = PathBuf::from("crates/listing_cases");
     let mut files: Vec<(PathBuf, Vec<u8>)> =
         all().into_iter().map(|case| (folder.join("data").join(case.name), case.file)).collect();
+    let args: String = all().iter().map(|case| format!("{}\n", case.name)).collect();
+    files.push((folder.join("args"), args.into_bytes()));
     files.push((folder.join("stdout"), text().into_bytes()));
 
     let folder = PathBuf::from("crates/listing");
