@@ -15,7 +15,8 @@ use Rattle.program.proofs.AcceptedLaws as program
 use Rattle.construction.specs.Theorems.{Start, firstBuilt}
 use Rattle.construction.proofs.AfterLaws.{every-start}
 use Rattle.marks.specs.Freeing.{CleansUp, EachMarked, LeavesAllBut}
-use Rattle.marks.proofs.FreeingLaws.{marked-clean-up, each-marked, cleans-up-says}
+use Rattle.marks.proofs.EachMarkedLaws.{each-marked}
+use Rattle.marks.proofs.FreeingLaws.{marked-clean-up, cleans-up-says}
 use Rattle.compilation.specs.Compiling.{outputTrees, programCircuit, compileOf}
 use Rattle.compilation.specs.Demand.{fileWritten, firstOutputs}
 use Rattle.compilation.specs.Marks.{CleansWritten, MarksClean, MarksCleanHolds, AtMarks, MarksCleanSays}

@@ -1,7 +1,8 @@
 -- Laws of programs without marks: nothing is changed. Assumes nothing.
 use Prim.Native.Nat.{ℕ, zero, suc, _+_, _*_, _≤_, _<_}
 use native.Mathlib.Omega.{arith}
-use mathlib.Core.Path.{_≡_, ap, _∙_}
+use mathlib.Core.Path.{_≡_, refl, ap, _∙_}
+use mathlib.Core.Bool.{Bool, true, false, cond}
 use mathlib.Core.List.{List, [], _∷_, _++_}
 use lib.ListN.{length, getD}
 use Rattle.wire.specs.Limits.{mostSize}
@@ -9,6 +10,7 @@ use Rattle.wire.specs.Lists.{tabulateFrom}
 use Rattle.wire.specs.Shown.{shown}
 use Rattle.node.specs.declared.nodes.Node.{Node}
 use Rattle.node.specs.declared.nodes.Node.the-variants.{Zero, One, Input, Not, Xor, And}
+use Rattle.node.specs.NodeBytes.{nodeBytes}
 use Rattle.node.specs.Exprs.{Expr, ZERO, size}
 use Rattle.node.specs.Trees.{treeOf, treesFrom, trees}
 use Rattle.program.specs.Programs.{Program, outputTree}
@@ -33,14 +35,18 @@ unmarked-snoc : (ts : List Expr) (t : Expr) → EachUnmarked ts → Unmarked t �
 unmarked-snoc [] t u w = (w, tt)
 unmarked-snoc (s ∷ ts) t u w = (u .0, unmarked-snoc ts t (u .1) w)
 
+no-mark : (m : Bool) → _≡_ {A = ℕ} (cond m 1 0) 0 → m ≡ false
+no-mark true h = absurd (omega (arith, h))
+no-mark false h = refl
+
 unmarked-tree : (node : Node) (ts : List Expr) → NotMarked node → EachUnmarked ts → Unmarked (treeOf ts node)
-unfolding treeOf
+unfolding treeOf nodeBytes
 unmarked-tree Zero ts n u = tt
 unmarked-tree One ts n u = tt
 unmarked-tree (Input j) ts n u = tt
 unmarked-tree (Not a) ts n u = unmarked-at ts u a
 unmarked-tree (Xor a b) ts n u = (unmarked-at ts u a, unmarked-at ts u b)
-unmarked-tree (And m a b) ts n u = (n, unmarked-at ts u a, unmarked-at ts u b)
+unmarked-tree (And m a b) ts n u = (no-mark m n, unmarked-at ts u a, unmarked-at ts u b)
 
 unmarked-from : (ns : List Node) (ts : List Expr) → ((i : ℕ) → i < length ns → NotMarked (getD ns i Zero)) → EachUnmarked ts → EachUnmarked (treesFrom ts ns)
 unfolding treesFrom

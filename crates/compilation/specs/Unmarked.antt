@@ -1,11 +1,11 @@
 -- Programs without marks (02, A7): they have the circuits that they had before there were any.
 use Prim.Native.Nat.{ℕ, _+_, _≤_, _<_}
 use mathlib.Core.Path.{_≡_}
-use mathlib.Core.Bool.{false}
 use lib.ListN.{length, getD}
 use Rattle.wire.specs.Limits.{mostSize}
 use Rattle.node.specs.declared.nodes.Node.{Node}
-use Rattle.node.specs.declared.nodes.Node.the-variants.{Zero, One, Input, Not, Xor, And}
+use Rattle.node.specs.declared.nodes.Node.the-variants.{Zero}
+use Rattle.node.specs.NodeBytes.{nodeBytes}
 use Rattle.node.specs.Exprs.{size}
 use Rattle.program.specs.Programs.{Program, outputTree, LegalProgram}
 use Rattle.construction.specs.Counting.{gatesShown}
@@ -13,16 +13,11 @@ use Rattle.construction.specs.Pools.{allFree}
 use Rattle.marks.specs.Unmarked.{unmarkedShares}
 use Rattle.compilation.specs.Compiling.{outputTrees, programCircuit}
 
--- a node is not marked
+-- a node is not marked: its second byte is 0
 abbrev pub NotMarked : Node → Type 0
-NotMarked Zero = Unit {0}
-NotMarked One = Unit {0}
-NotMarked (Input j) = Unit {0}
-NotMarked (Not a) = Unit {0}
-NotMarked (Xor a b) = Unit {0}
-NotMarked (And m a b) = m ≡ false
+NotMarked n = getD (nodeBytes n) 1 0 ≡ 0
 
--- no node of a program is
+-- no node of a program is marked
 abbrev pub WithoutMarks : Program → Type 0
 WithoutMarks p = (i : ℕ) → i < length (p .nodes) → NotMarked (getD (p .nodes) i Zero)
 

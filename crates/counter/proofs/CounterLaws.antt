@@ -49,7 +49,7 @@ pub no-overflow : (s w : ℕ) → gatesIn s ≤ mostPassed → w ≤ 2 → s + w
 unfolding gatesIn
 no-overflow s w few low = omega arith
 
--- gates once more: all of those above the largest number that is shown, and else those since `from` too
+-- gates once more: a number above the largest that is shown stays, and to any other those since `from` are added
 module _ (from gates : ℕ) where
   pub more-over : mostCounted < gates → gates ≡ onceMore from gates
   more-over h = rw (lt-ltb mostCounted gates h) refl

@@ -21,7 +21,8 @@ pub struct Needs {
 }
 
 // Counts node i from how far counting has come, where one gate on its own line counts own: 1 where it is
-// an output's, which is not undone, and else 2. Calls itself on the operands, whose indices are lower, but for an AND's inputs.
+// an output's, which is not undone, and else 2. Calls itself on the operands, whose indices are lower,
+// but for an AND's inputs.
 pub fn count(nodes: &[u8], i: usize, own: usize, state: usize) -> usize
     requires { ⌜ Countable (now nodes) i × CountRoom (size (treeIn (now nodes) i)) own state ⌝ }
     ensures { λ r. ⌜ Counted (treeIn (now (nodes .entry)) i) own state r ⌝ }

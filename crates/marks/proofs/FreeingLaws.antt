@@ -30,6 +30,7 @@ use Rattle.construction.proofs.LineLaws.{all-open, apart-not, apart-xor-first, 
 use Rattle.construction.proofs.RestoreLaws.{circuit-formed, shares-open}
 use Rattle.construction.proofs.AfterLaws.{same-front, same-end}
 use Rattle.marks.specs.Freeing.{withOperands, Freed, CleansUp, EachMarked, MarkedCleanUp, CleansUpSays}
+use Rattle.marks.proofs.EachMarkedLaws.{of-operand}
 
 -- the lines from f on are not below f
 among-behind : (f k i : ℕ) → isAmong (linesFrom f k) i ≡ true → f ≤ i
@@ -46,28 +47,6 @@ among-none f k i low h = go (decLt i (f + k))
         let at : f + (i - f) ≡ i = omega arith in
         absurd (false≢true (sym h ∙ (rw at at (lines-among f k (i - f) (omega arith)))))
     go (no l) = omega arith
-
--- where an operand of AND is an input there is no marked AND in it
-of-operand : (P : List Gate → Expr → Expr → ℕ → Pool → Type 0) (before : List Gate) (e : Expr) (t : ℕ) (p : Pool) → (inputOf e ≡ none → EachMarked P before e t p) → EachMarked P before e t p
-unfolding inputOf
-of-operand P before ZERO t p h = tt
-of-operand P before ONE t p h = tt
-of-operand P before (INPUT j) t p h = tt
-of-operand P before (NOT a) t p h = h refl
-of-operand P before (XOR a b) t p h = h refl
-of-operand P before (AND m a b) t p h = h refl
-
--- what holds of every marked AND holds where it follows
-pub each-marked : (P Q : List Gate → Expr → Expr → ℕ → Pool → Type 0) → ((before : List Gate) (a b : Expr) (t : ℕ) (p : Pool) → P before a b t p → Q before a b t p)
-    → (before : List Gate) (e : Expr) (t : ℕ) (p : Pool) → EachMarked P before e t p → EachMarked Q before e t p
-each-marked P Q f before ZERO t p h = tt
-each-marked P Q f before ONE t p h = tt
-each-marked P Q f before (INPUT j) t p h = tt
-each-marked P Q f before (NOT a) t p h = each-marked P Q f _ a t p h
-each-marked P Q f before (XOR a b) t p h =
-    (each-marked P Q f _ a t _ (h .0), each-marked P Q f _ b t _ (h .1))
-each-marked P Q f before (AND m a b) t p h =
-    (λ e. f before a b t p (h .0 e), each-marked P Q f _ a _ _ (h .1), each-marked P Q f _ b _ _ (h .2))
 
 -- an operand that is no input is made by the gates that build it
 made-gates : {q : Option ℕ} → q ≡ none → (gs : List Gate) → operandGates q gs ≡ gs

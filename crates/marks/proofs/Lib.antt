@@ -1,3 +1,4 @@
+pub mod EachMarkedLaws
 pub mod FreeingCases
 pub mod FreeingLaws
 pub mod UnmarkedLaws

@@ -59,38 +59,29 @@ pub unmarked-same : UnmarkedSame
 unfolding allShares
 unmarked-same n es u = shares-unmarked es u n (allFree (n + length es))
 
--- without marks a tree is built by no more gates than its size
-gates-within-size : (e : Expr) → Unmarked e → builtCount 1 e ≤ size e
-unfolding builtCount cleaningCount size
-gates-within-size ZERO u = omega arith
-gates-within-size ONE u = omega arith
-gates-within-size (INPUT j) u = omega arith
-gates-within-size (NOT a) u = omega (arith, gates-within-size a u)
-gates-within-size (XOR a b) u = omega (arith, gates-within-size a (u .0), gates-within-size b (u .1))
-gates-within-size (AND m a b) u =
-    rw (u .0)
-    (omega (
-      arith,
-      gates-within-size a (u .1),
-      gates-within-size b (u .2),
-      operand-few (inputOf a) (builtCount 1 a),
-      operand-few (inputOf b) (builtCount 1 b),
-      and-one (inputOf a) (inputOf b),
-    ))
-
--- and fewer of them are undone
-undone-below-size : (e : Expr) → Unmarked e → undoneCount 1 e + 1 ≤ size e
-unfolding undoneCount cleaningCount size
-undone-below-size ZERO u = omega arith
-undone-below-size ONE u = omega arith
-undone-below-size (INPUT j) u = omega arith
-undone-below-size (NOT a) u = omega (arith, undone-below-size a u)
-undone-below-size (XOR a b) u = omega (arith, undone-below-size a (u .0), undone-below-size b (u .1))
-undone-below-size (AND m a b) u =
-    rw (u .0)
-    (omega (arith, gates-within-size a (u .1), gates-within-size b (u .2), operand-few (inputOf a) (builtCount 1 a), operand-few (inputOf b) (builtCount 1 b)))
+-- without marks a tree is built by no more gates than its size, and fewer of them are undone
+within-size : (e : Expr) → Unmarked e → (builtCount 1 e ≤ size e) × (undoneCount 1 e + 1 ≤ size e)
+unfolding builtCount undoneCount cleaningCount size
+within-size ZERO u = (omega arith, omega arith)
+within-size ONE u = (omega arith, omega arith)
+within-size (INPUT j) u = (omega arith, omega arith)
+within-size (NOT a) u =
+    let x = within-size a u in
+    (omega (arith, x .0), omega (arith, x .1))
+within-size (XOR a b) u =
+    let x = within-size a (u .0) in
+    let y = within-size b (u .1) in
+    (omega (arith, x .0, y .0), omega (arith, x .1, y .1))
+within-size (AND m a b) u =
+    let x = within-size a (u .1) in
+    let y = within-size b (u .2) in
+    let first = operand-few (inputOf a) (builtCount 1 a) in
+    let second = operand-few (inputOf b) (builtCount 1 b) in
+    rw (u .0) (omega (arith, x .0, y .0, first, second, and-one (inputOf a) (inputOf b)), omega (arith, x .0, y .0, first, second))
 
 -- so a share has fewer gates than twice the size
 pub share-within-size : (e : Expr) → Unmarked e → shareCount 1 e + 1 ≤ 2 * size e
 unfolding shareCount
-share-within-size e u = omega (arith, gates-within-size e u, undone-below-size e u)
+share-within-size e u =
+    let x = within-size e u in
+    omega (arith, x .0, x .1)

@@ -13,6 +13,7 @@ use Rattle.node.specs.Exprs.{Expr, ZERO, ONE, INPUT, NOT, XOR, AND, EachBelow}
 use Rattle.construction.specs.Pools.{Pool, isAmong, lowestFree, takeLine}
 use Rattle.construction.specs.Construction.{inputOf, operand, build, circuitGates, linesNeeded}
 use Rattle.construction.specs.Theorems.{Start, firstBuilt, firstShares}
+use Rattle.marks.specs.Unmarked.{Unmarked}
 
 -- the pool once both operands of an AND are made, where p was the pool before
 abbrev pub withOperands : Expr → Expr → Pool → Pool
@@ -51,6 +52,10 @@ EachMarked P before (AND m a b) t p =
     (m ≡ true → P before a b t p)
     × EachMarked P before a (lowestFree p) (takeLine p)
     × EachMarked P (before ++ x .gates) b (lowestFree (x .pool)) (takeLine (x .pool))
+
+-- no marked AND of a tree is left out: a tree that has none that is met has none
+abbrev pub NoneLeftOut : Type 0
+NoneLeftOut = (e : Expr) (before : List Gate) (t : ℕ) (p : Pool) → EachMarked (λ x a b i q. ⊥) before e t p → Unmarked e
 
 -- 02, A7: every marked AND of every output of a circuit cleans up, at the place where its gates stand
 abbrev pub MarkedCleanUp : Type 0

@@ -160,6 +160,24 @@ fn all_hold(name: &str, seed: u64, programs: &[Program]) -> Seen {
     seen
 }
 
+/// So many drawn programs; and how many of their shares write work lines.
+fn drawn_hold(
+    name: &str,
+    seed: u64,
+    programs: usize,
+    draw: fn(&mut Random) -> Program,
+) -> (Seen, u64) {
+    let mut random = Random::new(seed);
+    let mut seen = Seen::default();
+    let mut written = 0;
+    for _ in 0..programs {
+        let program = draw(&mut random);
+        written += holds(&mut random, &mut seen, program);
+    }
+    finish(&seen, written, name);
+    (seen, written)
+}
+
 #[test]
 fn the_examples() {
     let mut examples = vec![
@@ -233,14 +251,7 @@ fn at_the_limits() {
 
 #[test]
 fn random_programs() {
-    let mut random = Random::new(0x656e_6432);
-    let mut seen = Seen::default();
-    let mut written = 0;
-    for _ in 0..3_000 {
-        let program = drawn::accepted(&mut random);
-        written += holds(&mut random, &mut seen, program);
-    }
-    finish(&seen, written, "end to end");
+    let (seen, written) = drawn_hold("end to end", 0x656e_6432, 3_000, drawn::accepted);
     assert!(seen.runs_from_zero > 100_000 && seen.other_runs > 50_000, "too few runs");
     assert!(seen.values.iter().all(|count| *count > 20_000), "too few values of one kind");
     assert!(seen.most_lines > 1_000 && seen.most_gates > 7_000, "no large circuit");
@@ -252,14 +263,7 @@ fn random_programs() {
 /// Marks at some or all of the ANDs, in most programs one above another.
 #[test]
 fn random_markings() {
-    let mut random = Random::new(0x6d61_726b);
-    let mut seen = Seen::default();
-    let mut written = 0;
-    for _ in 0..2_000 {
-        let program = drawn::marked(&mut random);
-        written += holds(&mut random, &mut seen, program);
-    }
-    finish(&seen, written, "end to end, marks");
+    let (seen, _) = drawn_hold("end to end, marks", 0x6d61_726b, 2_000, drawn::marked);
     assert!(seen.runs_from_zero > 50_000 && seen.other_runs > 50_000, "too few runs");
     assert!(seen.values.iter().all(|count| *count > 10_000), "too few values of one kind");
     seen.marks.finish(300);

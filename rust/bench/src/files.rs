@@ -59,8 +59,7 @@ pub fn small_outputs(random: &mut Random) -> Vec<u8> {
 /// An output for each 125 gates, with a tree of 31 ANDs of its own. Of its leaves, 16 are inputs,
 /// which are controls themselves, and 16 are NOTs of inputs, which are built with two gates each.
 pub fn and_trees(random: &mut Random, gates: usize) -> Vec<u8> {
-    let mut nodes = inputs();
-    nodes.extend((0..INPUTS as u16).map(program::not));
+    let mut nodes = inputs_and_nots();
     let tree = |_| {
         let leaves = [some_nots(random, 16), some_inputs(random, 16)].concat();
         add_tree(random, &mut nodes, and, leaves)
@@ -72,8 +71,7 @@ pub fn and_trees(random: &mut Random, gates: usize) -> Vec<u8> {
 /// 64 outputs of 125 gates, with a tree of 19 ANDs each. Of its leaves, 8 are inputs, 8 are NOTs of
 /// inputs, and 4 are marked ANDs of an input and an AND of an input and a NOT.
 pub fn trees_of_marked_ands(random: &mut Random) -> Vec<u8> {
-    let mut nodes = inputs();
-    nodes.extend((0..INPUTS as u16).map(program::not));
+    let mut nodes = inputs_and_nots();
     let mut outputs = Vec::new();
     for _ in 0..64 {
         let mut leaves: Vec<u16> = (0..4).map(|_| add_marked(random, &mut nodes, 1, 2)).collect();
@@ -87,8 +85,7 @@ pub fn trees_of_marked_ands(random: &mut Random) -> Vec<u8> {
 /// One output of 8,000 gates: a tree of XORs over 320 marked ANDs, of two inputs and two NOTs each,
 /// which take the same lines one after the other.
 pub fn sum_of_marked_ands(random: &mut Random) -> Vec<u8> {
-    let mut nodes = inputs();
-    nodes.extend((0..INPUTS as u16).map(program::not));
+    let mut nodes = inputs_and_nots();
     let leaves = (0..320).map(|_| add_marked(random, &mut nodes, 2, 2)).collect();
     let output = add_tree(random, &mut nodes, xor, leaves);
     with_gates(8000, &nodes, &[output])
@@ -112,8 +109,7 @@ pub fn nested_marks(random: &mut Random) -> Vec<u8> {
 /// 64 outputs of size 16,379 and 29,484 gates: a tree of XORs over 819 marked ANDs of an input and a
 /// NOT, which is counted four times for each.
 pub fn largest_marked_outputs(random: &mut Random) -> Vec<u8> {
-    let mut nodes = inputs();
-    nodes.extend((0..INPUTS as u16).map(program::not));
+    let mut nodes = inputs_and_nots();
     let leaves = (0..819).map(|_| add_marked(random, &mut nodes, 1, 1)).collect();
     let root = add_tree(random, &mut nodes, xor, leaves);
     let output = four_times(&mut nodes, root);
@@ -155,6 +151,13 @@ pub fn circuit(random: &mut Random, gates: usize) -> Vec<u8> {
 /// Every input as a node: input j is node j.
 fn inputs() -> Vec<Node> {
     (0..INPUTS as u16).map(input).collect()
+}
+
+/// The inputs, and behind them the NOT of each.
+fn inputs_and_nots() -> Vec<Node> {
+    let mut nodes = inputs();
+    nodes.extend((0..INPUTS as u16).map(program::not));
+    nodes
 }
 
 fn an_input(random: &mut Random) -> u16 {

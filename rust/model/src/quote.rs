@@ -237,6 +237,15 @@ mod tests {
         }
     }
 
+    /// Of these outputs, the share's numbers, and its gates as compiling counts them.
+    fn gates_counted_as_built(program: &Program, outputs: &[usize]) {
+        for &k in outputs {
+            counted_as_built(program, k);
+            let gates = construct::share_gate_count(&program.nodes, program.outputs[k]);
+            assert_eq!(built(program, k)[0], gates, "output {k}");
+        }
+    }
+
     /// A chain of XOR, NOT and AND in turn, up to sizes past those that are built for a quote.
     #[test]
     fn built_and_counted_alike_in_larger_trees() {
@@ -249,11 +258,7 @@ mod tests {
         let program = program(1, &nodes, &outputs);
         let small: Vec<usize> = outputs.into_iter().filter(|k| sizes[*k] <= 16_384).collect();
         assert!(small.iter().any(|k| sizes[*k] > LARGEST_BUILT));
-        for k in small {
-            counted_as_built(&program, k);
-            let gates = construct::share_gate_count(&nodes, k);
-            assert_eq!(built(&program, k)[0], gates, "output {k}");
-        }
+        gates_counted_as_built(&program, &small);
     }
 
     /// The same with every other AND of it marked, as far as its gates can be built.
@@ -270,11 +275,7 @@ mod tests {
             .filter(|k| construct::share_gate_count(&nodes, *k) <= 100_000)
             .collect();
         assert!(small.iter().any(|k| construct::share_gate_count(&nodes, *k) > MOST_BUILT));
-        for k in small {
-            counted_as_built(&program, k);
-            let gates = construct::share_gate_count(&nodes, k);
-            assert_eq!(built(&program, k)[0], gates, "output {k}");
-        }
+        gates_counted_as_built(&program, &small);
     }
 
     /// Each marked AND has 2 times the gates of the one before, and 1: 2^d - 1 with depth d, and half
