@@ -73,6 +73,26 @@ oracle_answer oracle_evaluate(const uint8_t *file, size_t file_length,
                               const uint8_t *inputs, size_t inputs_length,
                               uint64_t output);
 
+/* Evaluates one output of a program file on 64 questions at once, each node once for all of them.
+ * Bit k of a word, from the lowest on, belongs to question k, from 0 to 63: its inputs are bits k of
+ * the input words.
+ *
+ * inputs  one word for each input; every word is allowed; only read.
+ * values  a word for each node at least; 4,096 are always enough. After a result, bit k of entry i
+ *         is the value of node i on question k, and entries behind the last node are as they were.
+ *         After a refusal all of it is.
+ * output  the output's number, from 0.
+ *
+ * values_length and inputs_length are in words. Result: bit k of value is the output's value on
+ * question k, which is what oracle_evaluate answers to it. As value uses all 64 bits, only number
+ * says whether it is a result. Refusals: 1 to 7, 14, 15; 14 where there are not as many words as
+ * inputs. The file is only read.
+ */
+oracle_answer oracle_evaluate_words(const uint8_t *file, size_t file_length,
+                                    uint64_t *values, size_t values_length,
+                                    const uint64_t *inputs, size_t inputs_length,
+                                    uint64_t output);
+
 /* Quotes a program file: how many gates, Toffolis and work lines the share of each output has,
  * without building it. Whatever oracle_compile refuses with 8 to 11 is quoted too. Gates that are
  * undone at a mark count as often as they are written, and lines are the most in use together.

@@ -9,12 +9,14 @@ use quote::Quoted;
 use refusal::causes::Refusal;
 use run::Ran;
 use undo::Undone;
+use words::WordEvaluated;
 ghost use mathlib.Core.Path.{_≡_};
 ghost use Prim.Native.Nat.{_≤_};
 ghost use Rattle.wire.specs.Limits.{mostGates};
 ghost use Rattle.refusal.specs.Answers.{result, refuse, mapAnswer};
 ghost use Rattle.program.specs.Reading.{programRead};
 ghost use Rattle.evaluate.specs.Evaluating.{evaluated};
+ghost use Rattle.words.specs.EvaluatingWords.{wordEvaluated};
 ghost use Rattle.circuit.specs.Reading.{circuitRead};
 ghost use Rattle.run.specs.RunCircuit.{ran};
 ghost use Rattle.undo.specs.UndoCircuit.{undone};
@@ -107,6 +109,19 @@ pub fn evaluate_answer(answer: Evaluated) -> OracleAnswer
             value: bit as u64,
         },
         Evaluated::Refused(why) => refusal(why),
+    }
+}
+
+// What evaluating on 64 questions answers; the value of a result is the output's word.
+pub fn words_answer(answer: WordEvaluated) -> OracleAnswer
+    ensures { λ r. ⌜ r ≡ exported (wordEvaluated answer) ⌝ }
+{
+    match answer {
+        WordEvaluated::Word(word) => OracleAnswer {
+            number: 0,
+            value: word,
+        },
+        WordEvaluated::Refused(why) => refusal(why),
     }
 }
 

@@ -17,14 +17,15 @@ use Rattle.circuit.specs.Reading.{readCircuit}
 use Rattle.circuit.proofs.AcceptedLaws.{has-lines}
 use Rattle.run.specs.RunCircuit.{runForwards}
 use Rattle.node.specs.Exprs.{Expr, value}
-use Rattle.program.specs.Programs.{Program, headOf, outputValue}
+use Rattle.program.specs.Programs.{Program, outputValue}
 use Rattle.program.specs.Reading.{programOf}
 use Rattle.program.proofs.AcceptedLaws as program
 use Rattle.construction.specs.Construction.{shares}
 use Rattle.construction.specs.Theorems.{Start, firstBuilt, After, SharesRestore}
 use Rattle.construction.proofs.RestoreLaws.{shares-restore}
 use Rattle.evaluate.specs.Evaluating.{evaluateOf}
-use Rattle.evaluate.proofs.EvaluateLaws.{output-answered}
+use Rattle.evaluate.proofs.AskedLaws.{outcome-is}
+use Rattle.evaluate.proofs.EvaluateLaws.{valueOn, bytesFit, evaluate-outcome}
 use Rattle.compilation.specs.Compiling.{outputTrees, programCircuit, compileOf}
 use Rattle.compilation.specs.Demand.{fileWritten, firstOutputs, Run, Demand3, Demand3Holds}
 use Rattle.compilation.proofs.OutputLaws.{trees-length, tree-is, trees-inputs}
@@ -82,11 +83,12 @@ module _ (f : List ℕ) (a : program.Accepted f) (start : List ℕ) (s : Start (
 
   -- evaluating answers the value on the input lines
   evaluates : (k : ℕ) → k < c .outputs → (values : List ℕ) → length (p .nodes) ≤ length values → evaluateOf f values inputs k .answer ≡ result (outputValue p inputs k)
-  unfolding programCircuit
+  unfolding programCircuit outputValue
   evaluates k h values long =
       let count : length inputs ≡ p .inputs = length-take-le (p .inputs) start (omega arith) in
-      output-answered f values inputs k {h = headOf p} (record { accepts = a; head = refl })
-      (record { room = long; bits = bits-pass (p .inputs) inputs count (bits-take (p .inputs) start (s .bits)); output = h })
+      outcome-is (valueOn inputs) (bytesFit inputs) f values k p (evaluate-outcome f values inputs k)
+      (record { read = a .is; room = long; tested = bits-pass (p .inputs) inputs count (bits-take (p .inputs) start (s .bits)); output = h })
+      .0
 
   run-is : (g : List ℕ) → readCircuit g ≡ result c → Run f p g c start
   unfolding programCircuit

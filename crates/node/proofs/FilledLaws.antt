@@ -51,6 +51,13 @@ module _ (f : Expr → ℕ) (ns : List Node) where
   pub entry-at : (i : ℕ) → i < length ns → getD (map f (trees ns)) i 0 ≡ f (getD (trees ns) i ZERO)
   entry-at i h = map-at f (trees ns) i ZERO 0 (omega (arith, length-trees ns))
 
+-- where a list has the numbers of some trees, entry a is that of tree a
+pub entry-is : (f : Expr → ℕ) {list : List ℕ} (ts : List Expr) → list ≡ flatMap (λ e. f e ∷ []) ts → (a : ℕ) → a < length list → getD list a 0 ≡ f (getD ts a ZERO)
+entry-is f {list} ts e a h =
+    let is : list ≡ map f ts = e ∙ flat-single f ts in
+    let count : length list ≡ length ts = ap length is ∙ length-map ts f in
+    ap (λ (l : List ℕ). getD l a 0) is ∙ map-at f ts a ZERO 0 (omega arith)
+
 module _ (f : Expr → ℕ) (body : List ℕ) where
   abbrev single : Expr → List ℕ
   single e = f e ∷ []

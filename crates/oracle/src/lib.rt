@@ -9,6 +9,7 @@ use abi::program_answer;
 use abi::quote_answer;
 use abi::run_answer;
 use abi::undo_answer;
+use abi::words_answer;
 use circuit::reader::read_circuit;
 use compile::compile;
 use evaluate::evaluate;
@@ -17,6 +18,7 @@ use quote::quote;
 use run::run_backwards;
 use run::run_forwards;
 use undo::undo;
+use words::evaluate_words;
 ghost use mathlib.Core.Path.{_≡_};
 ghost use lib.ListN.{length};
 ghost use Rattle.refusal.specs.Answers.{mapAnswer};
@@ -27,6 +29,7 @@ ghost use Rattle.run.specs.RunCircuit.{runForwards, runBackwards, linesAfter, d
 ghost use Rattle.undo.specs.UndoCircuit.{undoFile};
 ghost use Rattle.program.specs.Reading.{readProgram};
 ghost use Rattle.evaluate.specs.Evaluating.{evaluateOf};
+ghost use Rattle.words.specs.EvaluatingWords.{evaluateWordsOf};
 ghost use Rattle.compilation.specs.Compiling.{compileOf};
 ghost use Rattle.quotation.specs.Quoting.{quoteOf};
 ghost use Rattle.abi.specs.Exported.{exported, exportedHead, programHead, circuitHead};
@@ -52,6 +55,20 @@ pub extern "C" fn oracle_evaluate(
     ensures { λ _. ⌜ now (values .exit) ≡ evaluateOf (now (file .entry)) (now (values .entry)) (now (inputs .entry)) output .values ⌝ }
 {
     evaluate_answer(evaluate(file, values, inputs, output))
+}
+
+// Evaluates an output of a program file on 64 questions; the value of a result is the output's word.
+#[no_mangle]
+pub extern "C" fn oracle_evaluate_words(
+    file: &[u8],
+    values: &mut [u64],
+    inputs: &[u64],
+    output: u64,
+) -> OracleAnswer
+    ensures { λ r. ⌜ r ≡ exported (evaluateWordsOf (now (file .entry)) (now (values .entry)) (now (inputs .entry)) output .answer) ⌝ }
+    ensures { λ _. ⌜ now (values .exit) ≡ evaluateWordsOf (now (file .entry)) (now (values .entry)) (now (inputs .entry)) output .values ⌝ }
+{
+    words_answer(evaluate_words(file, values, inputs, output))
 }
 
 // Quotes a program file; the value of a result is the number of outputs.

@@ -16,7 +16,7 @@ pub enum Refusal {
     Node(u64),
     // The output with this index names no node.
     Output(u64),
-    // The lent size or value list has fewer entries than there are nodes.
+    // A lent list has fewer entries than there are nodes, or the answer list than there are outputs.
     ListLength,
     // The output with this index has an unfolded size over the limit.
     Size(u64),
@@ -30,7 +30,7 @@ pub enum Refusal {
     Gate(u64),
     // There is not one byte, 0 or 1, for each line.
     LineBytes,
-    // There is not one byte, 0 or 1, for each input.
+    // There is not one byte, 0 or 1, or not one word, for each input.
     InputBytes,
     // No output has this number.
     OutputNumber,

@@ -4,15 +4,14 @@ use native.Mathlib.Omega.{arith}
 use native.Mathlib.Nat.{add-zero}
 use mathlib.Core.Path.{_≡_, refl, sym, ap, _∙_}
 use mathlib.Core.Bool.{Bool, true, false}
-use mathlib.Core.List.{List, [], _∷_, _++_, map, flatMap}
-use lib.ListN.{length, getD, length-map, List·getD-append}
+use mathlib.Core.List.{List, [], _∷_, _++_, flatMap}
+use lib.ListN.{length, getD, List·getD-append}
 use lib.Dec.{leb}
 use borrow.Author.Tests.{leb-true, leb-false, le-leb, lt-leb}
 use Rattle.wire.specs.Limits.{mostSize}
 use Rattle.wire.specs.Shown.{shown}
 use Rattle.refusal.specs.Checks.{lowest}
 use Rattle.refusal.proofs.CheckLaws.{by-test, lowest-same}
-use Rattle.wire.proofs.ListLaws.{map-at, flat-single}
 use Rattle.wire.proofs.ShownLaws.{shown-sum, shown-more}
 use Rattle.node.specs.declared.nodes.Node.{Node}
 use Rattle.node.specs.declared.nodes.Node.the-variants.{Zero, One, Input, Not, Xor, And}
@@ -22,7 +21,7 @@ use Rattle.program.specs.Reading.{outputAt}
 use Rattle.node.specs.Steps.{NextOf}
 use Rattle.node.specs.Trees.{treeOf, trees}
 use Rattle.node.proofs.TreeLaws.{nodes-count}
-use Rattle.node.proofs.FilledLaws.{entries-length, entry-at}
+use Rattle.node.proofs.FilledLaws.{entries-length, entry-at, entry-is}
 use Rattle.sizing.specs.Sizing.{shownSize, nodeSizes}
 use Rattle.sizing.specs.Steps.{entryFits}
 
@@ -59,20 +58,13 @@ pub next-input : (ss : List ℕ) (j : ℕ) → NextSize (Input j) ss 1
 unfolding treeOf size shown
 next-input ss j ts e = refl
 
-module _ {ss : List ℕ} (ts : List Expr) (e : ss ≡ flatMap (λ e. shownSize e ∷ []) ts) where
-  entry : (a : ℕ) → a < length ss → getD ss a 0 ≡ shownSize (getD ts a ZERO)
-  entry a h =
-      let is : ss ≡ map shownSize ts = e ∙ flat-single shownSize ts in
-      let n : length ss ≡ length ts = ap (λ (l : List ℕ). length l) is ∙ length-map ts shownSize in
-      ap (λ (l : List ℕ). getD l a 0) is ∙ map-at shownSize ts a ZERO 0 (omega (arith, n))
-
 pub next-not : {ss : List ℕ} (a : ℕ) {r : ℕ} → a < length ss → r ≡ shown mostSize (1 + getD ss a 0 + 0) → NextSize (Not a) ss r
 unfolding treeOf size
-next-not a h p ts e = ap (λ (s : ℕ). s ∷ []) (p ∙ rw (add-zero, entry ts e a h) (shown-more mostSize 1 (size (getD ts a ZERO))))
+next-not a h p ts e = ap (λ (s : ℕ). s ∷ []) (p ∙ rw (add-zero, entry-is shownSize ts e a h) (shown-more mostSize 1 (size (getD ts a ZERO))))
 
 module _ {ss : List ℕ} (a b : ℕ) {r : ℕ} (h : (a < length ss) × (b < length ss)) (p : r ≡ shown mostSize (1 + getD ss a 0 + getD ss b 0)) where
   sum : (ts : List Expr) → ss ≡ flatMap (λ e. shownSize e ∷ []) ts → r ≡ shown mostSize (1 + size (getD ts a ZERO) + size (getD ts b ZERO))
-  sum ts e = p ∙ rw (entry ts e a (h .0), entry ts e b (h .1)) (shown-sum mostSize 1 (size (getD ts a ZERO)) (size (getD ts b ZERO)))
+  sum ts e = p ∙ rw (entry-is shownSize ts e a (h .0), entry-is shownSize ts e b (h .1)) (shown-sum mostSize 1 (size (getD ts a ZERO)) (size (getD ts b ZERO)))
 
   pub next-xor : NextSize (Xor a b) ss r
   unfolding treeOf size

@@ -3,7 +3,7 @@
 use model::construct;
 
 use crate::compare::run::Direction::{self, Backwards, Forwards};
-use crate::compare::{compile, evaluate, quote, read, run, undo};
+use crate::compare::{compile, evaluate, quote, read, run, undo, words};
 use crate::random::Random;
 use crate::tally::Tally;
 use crate::{circuit, damage, drawn, limits, program, shaped};
@@ -12,7 +12,7 @@ use crate::{circuit, damage, drawn, limits, program, shaped};
 pub struct Fuzz {
     shaped: Vec<Vec<u8>>,
     at_limits: Vec<Vec<u8>>,
-    tallies: [Tally; 8],
+    tallies: [Tally; 9],
 }
 
 impl Default for Fuzz {
@@ -20,6 +20,7 @@ impl Default for Fuzz {
         let services = [
             "read_program",
             "evaluate",
+            "evaluate_words",
             "compile",
             "quote",
             "read_circuit",
@@ -69,10 +70,11 @@ impl Fuzz {
         let run = |random: &mut Random, direction: Direction| {
             run::compare(direction, file, &run::drawn(random, file)).0
         };
-        let [program, evaluated, compiled, quoted, circuit, forwards, backwards, undone] =
+        let [program, evaluated, by_words, compiled, quoted, circuit, forwards, backwards, undone] =
             &mut self.tallies;
         program.count(&read::PROGRAM.compare(file));
         evaluated.count(&evaluate::compare(&evaluate::drawn(random, file.to_vec())));
+        by_words.count(&words::compare(&words::drawn(random, file.to_vec())));
         compiled.count(&compile::compare(&compile::drawn(random, file.to_vec())));
         quoted.count(&quote::compare(&quote::drawn(random, file.to_vec())));
         circuit.count(&read::CIRCUIT.compare(file));

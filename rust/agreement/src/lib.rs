@@ -38,3 +38,8 @@ pub fn digits(bytes: &[u8]) -> String {
 pub fn bits(number: u64, count: usize) -> Vec<u8> {
     (0..count).map(|at| (number >> at & 1) as u8).collect()
 }
+
+/// Bit k of each word, a byte each: a question, or its values.
+pub fn bit_of_each(words: &[u64], k: usize) -> Vec<u8> {
+    words.iter().map(|word| (word >> k & 1) as u8).collect()
+}

@@ -44,14 +44,14 @@ impl Tally {
     /// What the columns of [`Tally::row`] hold.
     pub fn heading() -> String {
         let causes: String = (1..16).map(|number| format!(" {number:>7}")).collect();
-        format!("{:<13} {:>8} {:>8}{causes}", "service", "calls", "results")
+        format!("{:<14} {:>8} {:>8}{causes}", "service", "calls", "results")
     }
 
     /// The counts in one line: cases, results, and the refusals from 1 to 15.
     pub fn row(&self) -> String {
         let refusals = self.refusals[1..].iter().map(|count| format!(" {count:>7}"));
         let refusals: String = refusals.collect();
-        format!("{:<13} {:>8} {:>8}{refusals}", self.service, self.cases, self.results)
+        format!("{:<14} {:>8} {:>8}{refusals}", self.service, self.cases, self.results)
     }
 
     /// Prints the run, and fails unless it was long enough and met results and exactly these

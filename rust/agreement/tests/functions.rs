@@ -2,12 +2,13 @@
 //! of its program file, and each computes on bits what its name says on numbers.
 
 use agreement::compare::compile::written;
-use agreement::compare::evaluate;
 use agreement::compare::run::after;
+use agreement::compare::{evaluate, MOST_NODES};
 use agreement::listing_cases::GRANT;
 use agreement::random::Random;
 use agreement::{bits, repository};
 use model::listing::{listing, text};
+use oracle::QUESTIONS;
 use table::functions::{adder, and, less, Form};
 
 /// A function: its name, the number of its inputs and outputs, and its outputs as the bits of a
@@ -149,8 +150,9 @@ fn listings_are_those_of_the_program_files() {
     }
 }
 
-/// Evaluated, and compiled and run forwards: the outputs are XORed into the targets, whatever these
-/// were, and the inputs and the work lines, zero at the start, end as they started.
+/// Evaluated, one by one and by the word, and compiled and run forwards: the outputs are XORed into
+/// the targets, whatever these were, and the inputs and the work lines, zero at the start, end as they
+/// started.
 #[test]
 fn each_computes_what_its_name_says() {
     let mut random = Random::new(0x6675_6e63);
@@ -171,7 +173,26 @@ fn computes(random: &mut Random, function: &Function) {
         assert_eq!(values, expected, "{name}");
         runs(&name, &circuit, &inputs, &expected, &random.bits(function.outputs));
     }
+    for questions in numbers.chunks(QUESTIONS) {
+        answers(function, &program, questions);
+    }
     println!("{}: {} inputs", function.name, numbers.len());
+}
+
+/// Each output of up to 64 numbers in one call, number k as question k.
+fn answers(function: &Function, program: &[u8], numbers: &[u64]) {
+    let word = |numbers: &[u64], at: usize| -> u64 {
+        (0..).zip(numbers).map(|(k, number)| (number >> at & 1) << k).sum()
+    };
+    let values: Vec<u64> = numbers.iter().map(|number| (function.value)(*number)).collect();
+    let inputs: Vec<u64> = (0..function.inputs).map(|j| word(numbers, j)).collect();
+    let asked = u64::MAX >> (QUESTIONS - numbers.len());
+    for output in 0..function.outputs {
+        let answer = oracle::evaluate_words(program, &mut [9; MOST_NODES], &inputs, output as u64);
+        let answer = answer.map(|answer| answer & asked);
+        let name = format!("output {output} of {}, {numbers:x?}", function.name);
+        assert_eq!(answer, Ok(word(&values, output)), "{name}");
+    }
 }
 
 fn runs(name: &str, circuit: &[u8], inputs: &[u8], expected: &[u8], targets: &[u8]) {

@@ -15,8 +15,9 @@ fn short_run() -> Fuzz {
 
 #[test]
 fn every_refusal_is_met() {
-    let refusals: [&[usize]; 8] = [
+    let refusals: [&[usize]; 9] = [
         &[1, 2, 3, 4, 5, 6],
+        &[1, 2, 3, 4, 5, 6, 7, 14, 15],
         &[1, 2, 3, 4, 5, 6, 7, 14, 15],
         &[1, 2, 3, 4, 5, 6, 7, 8, 9, 10, 11],
         &[1, 2, 3, 4, 5, 6, 7],

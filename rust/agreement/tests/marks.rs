@@ -3,7 +3,7 @@
 
 use agreement::compare::compile::{self, written};
 use agreement::compare::read::PROGRAM;
-use agreement::compare::{evaluate, quote, MOST_BYTES};
+use agreement::compare::{evaluate, quote, words, MOST_BYTES};
 use agreement::program::{and, input, marked, not, xor, Node, Program, ONE, ZERO};
 use agreement::random::Random;
 use agreement::tally::Tally;
@@ -259,7 +259,10 @@ fn all_services(file: &[u8], expected: Result<(), (u64, u64)>) -> Result<(), (u6
     let (values, inputs) = (vec![9; 4], vec![1]);
     let case = evaluate::Case { file: file.to_vec(), values, inputs, output: 0 };
     let evaluated = evaluate::compare(&case).map(|_| ());
-    for outcome in [compiled, quoted.map(|_| ()), evaluated] {
+    let (values, inputs) = (vec![9; 4], vec![0b10]);
+    let case = words::Case { file: file.to_vec(), values, inputs, output: 0 };
+    let by_words = words::compare(&case).map(|_| ());
+    for outcome in [compiled, quoted.map(|_| ()), evaluated, by_words] {
         assert_eq!(outcome, expected, "{}", hex(file));
     }
     expected

@@ -11,7 +11,8 @@ use crate::idiomatic::Refused;
 use crate::sides::{self, Side, ARCHIVE, RUST};
 
 use Service::{
-    Compile, Evaluate, Quote, ReadCircuit, ReadProgram, RunBackwards, RunForwards, Undo,
+    Compile, Evaluate, EvaluateWords, Quote, ReadCircuit, ReadProgram, RunBackwards, RunForwards,
+    Undo,
 };
 
 /// How many files a job of the first table has.
@@ -19,6 +20,9 @@ pub const FILES: usize = 32;
 
 const MOST_WORK_LINES: u64 = 1024;
 const MOST_OUTPUTS: usize = 64;
+
+/// What the files of [`files::of_all_kinds`] are.
+const OF_ALL_KINDS: &str = "4,096 nodes of all kinds";
 
 /// What is done to the lent areas before a call.
 const NONE: &str = "none lent";
@@ -47,6 +51,7 @@ pub struct Job {
 pub enum Service {
     ReadProgram,
     Evaluate,
+    EvaluateWords,
     Compile,
     Quote,
     ReadCircuit,
@@ -56,17 +61,18 @@ pub enum Service {
 }
 
 /// The services of the table by gates, in its order.
-pub const BY_GATES: [Service; 7] =
-    [ReadProgram, Evaluate, Compile, ReadCircuit, RunForwards, RunBackwards, Undo];
+pub const BY_GATES: [Service; 8] =
+    [ReadProgram, Evaluate, EvaluateWords, Compile, ReadCircuit, RunForwards, RunBackwards, Undo];
 
 /// The services of the table by nodes, which go over the nodes and build nothing.
-pub const BY_NODES: [Service; 3] = [ReadProgram, Evaluate, Quote];
+pub const BY_NODES: [Service; 4] = [ReadProgram, Evaluate, EvaluateWords, Quote];
 
 impl Service {
     pub fn name(self) -> &'static str {
         match self {
             ReadProgram => "read_program",
             Evaluate => "evaluate",
+            EvaluateWords => "evaluate_words",
             Compile => "compile",
             Quote => "quote",
             ReadCircuit => "read_circuit",
@@ -79,35 +85,49 @@ impl Service {
     fn buffers(self) -> &'static str {
         match self {
             ReadProgram | ReadCircuit => NONE,
-            Evaluate | Compile | Undo => KEPT,
+            Evaluate | EvaluateWords | Compile | Undo => KEPT,
             Quote => COUNTS_CLEARED,
             RunForwards | RunBackwards => RESET,
         }
     }
 
     fn takes_program(self) -> bool {
-        matches!(self, ReadProgram | Evaluate | Compile | Quote)
+        matches!(self, ReadProgram | Evaluate | EvaluateWords | Compile | Quote)
     }
 
     /// Inputs, lines, or choices of about a third of the lines.
     fn bits(self, random: &mut Random) -> Vec<u8> {
         match self {
-            ReadProgram | Compile | Quote | ReadCircuit => vec![],
+            ReadProgram | EvaluateWords | Compile | Quote | ReadCircuit => vec![],
             Evaluate => random.bits(INPUTS),
             RunForwards | RunBackwards => random.bits(LINES),
             Undo => (0..LINES).map(|_| u8::from(random.once_in(3))).collect(),
         }
     }
+
+    /// Inputs, where they are words.
+    fn words(self, random: &mut Random) -> Vec<u64> {
+        match self {
+            EvaluateWords => random.numbers(INPUTS),
+            _ => vec![],
+        }
+    }
+
+    /// What it is given with a file.
+    fn given(self, random: &mut Random, file: Vec<u8>) -> Given {
+        Given { file, bits: self.bits(random), words: self.words(random) }
+    }
 }
 
-/// A file, and bits for its inputs, lines or choices.
+/// A file, and bits for its inputs, lines or choices, or words for its inputs.
 struct Given {
     file: Vec<u8>,
     bits: Vec<u8>,
+    words: Vec<u64>,
 }
 
 impl Job {
-    /// A service on so many files, each drawn with bits for it, that give results.
+    /// A service on so many files, each drawn with bits or words for it, that give results.
     fn new(
         random: &mut Random,
         service: Service,
@@ -115,9 +135,18 @@ impl Job {
         count: usize,
         draw: impl Fn(&mut Random) -> Vec<u8>,
     ) -> Job {
-        let given = |_| Given { file: draw(random), bits: service.bits(random) };
+        let given = |_| {
+            let file = draw(random);
+            service.given(random, file)
+        };
         let files = (0..count).map(given).collect();
         Job { service, name, buffers: service.buffers(), rounds: 201, accepted: true, files }
+    }
+
+    /// Another service on the same files.
+    fn also(&self, random: &mut Random, service: Service) -> Job {
+        let files = self.files.iter().map(|given| service.given(random, given.file.clone()));
+        Job { service, buffers: service.buffers(), files: files.collect(), ..*self }
     }
 
     /// How many calls a round has: one with each file.
@@ -150,6 +179,7 @@ impl Job {
 /// The lent areas of a side.
 struct Areas {
     values: Vec<u8>,
+    words: Vec<u64>,
     sizes: Vec<u16>,
     counts: Vec<u64>,
     answers: Vec<u64>,
@@ -161,6 +191,7 @@ impl Areas {
     fn new() -> Areas {
         Areas {
             values: vec![0; MOST_NODES],
+            words: vec![0; MOST_NODES],
             sizes: vec![0; MOST_NODES],
             counts: vec![0; COUNT_ENTRY * MOST_NODES],
             answers: vec![0; ANSWER_ENTRY * MOST_OUTPUTS],
@@ -175,6 +206,10 @@ impl Areas {
         match service {
             ReadProgram => seen((side.read_program)(file)),
             Evaluate => seen((side.evaluate)(file, black_box(&mut self.values), bits, 0)),
+            EvaluateWords => {
+                let (values, inputs) = (black_box(&mut self.words), black_box(&given.words[..]));
+                seen((side.evaluate_words)(file, values, inputs, 0))
+            }
             Compile => {
                 let (sizes, area) = (black_box(&mut self.sizes), black_box(&mut self.area));
                 seen((side.compile)(file, MOST_WORK_LINES, sizes, area))
@@ -208,17 +243,18 @@ pub fn largest(random: &mut Random) -> Vec<Job> {
     let mut job = |service, name, draw: fn(&mut Random) -> Vec<u8>| {
         Job::new(random, service, name, FILES, draw)
     };
-    let nodes = "4,096 nodes of all kinds";
     let gates = "8,000 gates on 1,152 lines";
     let circuit = |random: &mut Random| files::circuit(random, 8000);
     let and_trees = |random: &mut Random| files::and_trees(random, 8000);
     let marked_nodes = "the same, half of the ANDs marked";
     let refused = |job: Job| Job { buffers: CLEARED, rounds: 15, accepted: false, ..job };
     vec![
-        job(ReadProgram, nodes, files::of_all_kinds),
+        job(ReadProgram, OF_ALL_KINDS, files::of_all_kinds),
         job(ReadProgram, marked_nodes, files::of_all_kinds_marked),
-        job(Evaluate, nodes, files::of_all_kinds),
+        job(Evaluate, OF_ALL_KINDS, files::of_all_kinds),
         job(Evaluate, marked_nodes, files::of_all_kinds_marked),
+        job(EvaluateWords, OF_ALL_KINDS, files::of_all_kinds),
+        job(EvaluateWords, marked_nodes, files::of_all_kinds_marked),
         job(Compile, "4,096 nodes, 64 outputs of 2 gates", files::small_outputs),
         job(Compile, "8,000 gates, 64 outputs of ANDs", and_trees),
         job(Compile, "the same, 4 of 27 ANDs marked", files::trees_of_marked_ands),
@@ -227,7 +263,7 @@ pub fn largest(random: &mut Random) -> Vec<Job> {
         job(Compile, "the same, of 320 marked ANDs", files::sum_of_marked_ands),
         refused(job(Compile, "refused 11, 64 outputs of size 16,384", files::largest_outputs)),
         refused(job(Compile, "the same of size 16,379, with marks", files::largest_marked_outputs)),
-        job(Quote, nodes, files::of_all_kinds),
+        job(Quote, OF_ALL_KINDS, files::of_all_kinds),
         job(Quote, marked_nodes, files::of_all_kinds_marked),
         job(Quote, "4,096 nodes, 4,032 marked ANDs", files::of_marked_ands),
         job(Quote, "4,096 nodes, 64 outputs of 2 gates", files::small_outputs),
@@ -236,6 +272,13 @@ pub fn largest(random: &mut Random) -> Vec<Job> {
         job(RunBackwards, gates, circuit),
         job(Undo, "the same, a third of the lines chosen", circuit),
     ]
+}
+
+/// evaluate and evaluate_words on the same files.
+pub fn both_evaluations(random: &mut Random) -> [Job; 2] {
+    let single = Job::new(random, Evaluate, OF_ALL_KINDS, FILES, files::of_all_kinds);
+    let by_words = single.also(random, EvaluateWords);
+    [single, by_words]
 }
 
 /// A service on files of so many gates, as many as make 64,000 gates.

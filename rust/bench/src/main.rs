@@ -1,6 +1,6 @@
-//! Times the services beside the same jobs in idiomatic Rust, in one run, shows how the time grows
-//! with the gates and with the nodes, and finds the stack that compile takes:
-//! `cargo run --offline --release -p bench`.
+//! Times the services beside the same jobs in idiomatic Rust, in one run, says what 64 questions in
+//! one call cost, shows how the time grows with the gates and with the nodes, and finds the stack that
+//! compile takes: `cargo run --offline --release -p bench`.
 //!
 //! Every job has many files, drawn at random and called in turn: on one file over and over, the
 //! processor would learn by heart which way each branch goes, and a call would look faster than it
@@ -9,6 +9,7 @@
 use std::time::{Duration, Instant};
 
 use agreement::random::Random;
+use oracle::QUESTIONS;
 
 mod files;
 mod idiomatic;
@@ -31,6 +32,7 @@ fn main() {
         println!("Without --release the Rust side is not optimised, and the ratio says nothing.");
     }
     ratios(&mut random);
+    questions_for_one(&mut random);
     growth_by_gates(&mut random);
     growth_by_nodes(&mut random);
     stack::print();
@@ -47,17 +49,36 @@ the times more than the ratio.
 "
     );
     println!(
-        "{:<13} {:<38} {:>12} {:>11} {:>6}  buffers",
+        "{:<14} {:<38} {:>12} {:>11} {:>6}  buffers",
         "service", "job", "liboracle.a", "Rust", "ratio"
     );
     for job in jobs::largest(random) {
         job.check(random);
-        let (archive, rust) = side_by_side(&job);
+        let (archive, rust) = in_turn(&job, job.on(&ARCHIVE), job.on(&RUST));
         let ratio = archive.as_secs_f64() / rust.as_secs_f64();
         let (service, name, buffers) = (job.service.name(), job.name, job.buffers);
         let (archive, rust) = (shown(archive), shown(rust));
-        println!("{service:<13} {name:<38} {archive:>12} {rust:>11} {ratio:>6.2}  {buffers}");
+        println!("{service:<14} {name:<38} {archive:>12} {rust:>11} {ratio:>6.2}  {buffers}");
     }
+}
+
+/// How many questions evaluate_words answers in the time of one call of evaluate.
+fn questions_for_one(random: &mut Random) {
+    let jobs = jobs::both_evaluations(random);
+    jobs.iter().for_each(|job| job.check(random));
+    let [evaluate, by_words] = &jobs;
+    let (single, word) = in_turn(evaluate, evaluate.on(&ARCHIVE), by_words.on(&ARCHIVE));
+    let ratio = word.as_secs_f64() / single.as_secs_f64();
+    println!(
+        "
+On the same {FILES} files of {}, both by liboracle.a and in turn:
+evaluate {}, evaluate_words {}, {ratio:.2} times as long. So {:.0} questions are answered for
+the price of one call of evaluate.",
+        evaluate.name,
+        shown(single),
+        shown(word),
+        QUESTIONS as f64 / ratio
+    );
 }
 
 /// How the time of liboracle.a grows with the number of gates.
@@ -93,7 +114,7 @@ before a call.
 }
 
 fn print_heading(columns: [String; 4]) {
-    println!("{:<13} {}", "service", columns.map(|column| format!("{column:>21}")).concat());
+    println!("{:<14} {}", "service", columns.map(|column| format!("{column:>21}")).concat());
 }
 
 /// A row: the time of a call of each job, and of that one of its gates or nodes.
@@ -106,23 +127,23 @@ fn print_times(random: &mut Random, service: &str, jobs: [(Job, usize); 4]) {
         let nanoseconds = time.as_secs_f64() * 1e9 / count as f64;
         format!("{:>12} {nanoseconds:>5.1} ns", shown(time))
     });
-    println!("{service:<13} {}", columns.concat());
+    println!("{service:<14} {}", columns.concat());
 }
 
-/// The times of both sides, measured in turn, so that what else the machine does meets both.
-fn side_by_side(job: &Job) -> (Duration, Duration) {
-    let (mut archive, mut rust) = (job.on(&ARCHIVE), job.on(&RUST));
-    let (mut archives, mut rusts) = (Vec::new(), Vec::new());
+/// The times of two kinds of rounds of a job, measured in turn, so that what else the machine does
+/// meets both.
+fn in_turn(job: &Job, mut first: Round, mut second: Round) -> (Duration, Duration) {
+    let (mut firsts, mut seconds) = (Vec::new(), Vec::new());
     for i in 0..job.rounds {
         if i % 2 == 0 {
-            archives.push(time(job, &mut archive));
-            rusts.push(time(job, &mut rust));
+            firsts.push(time(job, &mut first));
+            seconds.push(time(job, &mut second));
         } else {
-            rusts.push(time(job, &mut rust));
-            archives.push(time(job, &mut archive));
+            seconds.push(time(job, &mut second));
+            firsts.push(time(job, &mut first));
         }
     }
-    (median(&mut archives), median(&mut rusts))
+    (median(&mut firsts), median(&mut seconds))
 }
 
 /// The time of a call, as a round gives it.

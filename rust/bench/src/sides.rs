@@ -2,7 +2,7 @@
 
 use std::fmt::Debug;
 
-use agreement::compare::{compile, evaluate, quote, run, undo};
+use agreement::compare::{compile, evaluate, quote, run, undo, words};
 use agreement::fuzz::Fuzz;
 use agreement::random::Random;
 use oracle::{CircuitHead, ProgramHead};
@@ -11,6 +11,7 @@ use crate::idiomatic::{self, Refused};
 
 type ReadProgram = fn(&[u8]) -> Result<ProgramHead, Refused>;
 type Evaluate = fn(&[u8], &mut [u8], &[u8], u64) -> Result<bool, Refused>;
+type EvaluateWords = fn(&[u8], &mut [u64], &[u64], u64) -> Result<u64, Refused>;
 type Compile = fn(&[u8], u64, &mut [u16], &mut [u8]) -> Result<usize, Refused>;
 type Quote = fn(&[u8], &mut [u64], &mut [u64]) -> Result<usize, Refused>;
 type ReadCircuit = fn(&[u8]) -> Result<CircuitHead, Refused>;
@@ -21,6 +22,7 @@ type Undo = fn(&[u8], &[u8], &mut [u8]) -> Result<usize, Refused>;
 pub struct Side {
     pub read_program: ReadProgram,
     pub evaluate: Evaluate,
+    pub evaluate_words: EvaluateWords,
     pub compile: Compile,
     pub quote: Quote,
     pub read_circuit: ReadCircuit,
@@ -35,6 +37,9 @@ pub const ARCHIVE: Side = Side {
     evaluate: |file, values, inputs, output| {
         oracle::evaluate(file, values, inputs, output).map_err(numbers)
     },
+    evaluate_words: |file, values, inputs, output| {
+        oracle::evaluate_words(file, values, inputs, output).map_err(numbers)
+    },
     compile: |file, grant, sizes, area| oracle::compile(file, grant, sizes, area).map_err(numbers),
     quote: |file, counts, answers| oracle::quote(file, counts, answers).map_err(numbers),
     read_circuit: |file| oracle::read_circuit(file).map_err(numbers),
@@ -47,6 +52,7 @@ pub const ARCHIVE: Side = Side {
 pub const RUST: Side = Side {
     read_program: idiomatic::program::read_program,
     evaluate: idiomatic::program::evaluate,
+    evaluate_words: idiomatic::program::evaluate_words,
     compile: idiomatic::compile::compile,
     quote: idiomatic::quote::quote,
     read_circuit: idiomatic::circuit::read_circuit,
@@ -67,12 +73,13 @@ pub fn agree(random: &mut Random, files: usize) {
         let file = fuzz.file(random);
         agree_on(random, &file);
     }
-    println!("Both sides answer alike on {files} files, each given to all eight services.");
+    println!("Both sides answer alike on {files} files, each given to all nine services.");
 }
 
 /// The same for one file.
 pub fn agree_on(random: &mut Random, file: &[u8]) {
     let evaluated = evaluate::drawn(random, file.to_vec());
+    let by_words = words::drawn(random, file.to_vec());
     let compiled = compile::drawn(random, file.to_vec());
     let quoted = quote::drawn(random, file.to_vec());
     let lines = run::drawn(random, file);
@@ -83,6 +90,10 @@ pub fn agree_on(random: &mut Random, file: &[u8]) {
     same(file, "evaluate", |side| {
         let mut values = evaluated.values.clone();
         ((side.evaluate)(file, &mut values, &evaluated.inputs, evaluated.output), values)
+    });
+    same(file, "evaluate_words", |side| {
+        let mut values = by_words.values.clone();
+        ((side.evaluate_words)(file, &mut values, &by_words.inputs, by_words.output), values)
     });
     same(file, "compile", |side| {
         let (mut sizes, mut area) = (compiled.sizes.clone(), compiled.area.clone());

@@ -12,6 +12,7 @@ pub mod program;
 pub mod quote;
 pub mod run;
 pub mod undo;
+pub mod words;
 
 /// A cause's number, and its place where the table of causes gives one.
 #[derive(Debug, Clone, Copy, PartialEq, Eq)]

@@ -47,6 +47,16 @@ mod c {
             output: u64,
         ) -> Answer;
 
+        pub fn oracle_evaluate_words(
+            file: *const u8,
+            file_len: usize,
+            values: *mut u64,
+            values_len: usize,
+            inputs: *const u64,
+            inputs_len: usize,
+            output: u64,
+        ) -> Answer;
+
         pub fn oracle_compile(
             file: *const u8,
             file_len: usize,
@@ -106,6 +116,21 @@ pub fn evaluate(file: &[u8], values: &mut [u8], inputs: &[u8], output: u64) -> A
     // SAFETY: see above.
     unsafe {
         c::oracle_evaluate(
+            file.as_ptr(),
+            file.len(),
+            values.as_mut_ptr(),
+            values.len(),
+            inputs.as_ptr(),
+            inputs.len(),
+            output,
+        )
+    }
+}
+
+pub fn evaluate_words(file: &[u8], values: &mut [u64], inputs: &[u64], output: u64) -> Answer {
+    // SAFETY: see above.
+    unsafe {
+        c::oracle_evaluate_words(
             file.as_ptr(),
             file.len(),
             values.as_mut_ptr(),
@@ -237,6 +262,30 @@ mod tests {
             assert_eq!(evaluate(&AND, &mut values, &inputs, 0), answer(0, bit));
         }
         assert_eq!(evaluate(&AND, &mut [7; 2], &[1, 1], 0), answer(7, 0));
+    }
+
+    #[test]
+    fn the_answer_to_an_evaluation_by_words_is_a_word() {
+        let (a, b) = (0xcccc_cccc_cccc_cccc, 0xaaaa_aaaa_aaaa_aaaa);
+        let mut values = [7; 4];
+        assert_eq!(evaluate_words(&AND, &mut values, &[a, b], 0), answer(0, 0x8888_8888_8888_8888));
+        assert_eq!(values, [a, b, 0x8888_8888_8888_8888, 7]);
+
+        // Each of the 64 bits, and all of them.
+        let any = [0, u64::MAX].into_iter().chain((0..64).map(|k| 1 << k));
+        for word in any {
+            let mut values = [7; 3];
+            assert_eq!(evaluate_words(&AND, &mut values, &[word, u64::MAX], 0), answer(0, word));
+            assert_eq!(values, [word, u64::MAX, word]);
+        }
+
+        let mut values = [7; 3];
+        assert_eq!(evaluate_words(&[], &mut values, &[a, b], 0), answer(1, 0));
+        assert_eq!(evaluate_words(&changed(AND, 50, 2), &mut values, &[a, b], 0), answer(5, 2));
+        assert_eq!(evaluate_words(&AND, &mut values[..2], &[a], 1), answer(7, 0));
+        assert_eq!(evaluate_words(&AND, &mut values, &[a], 1), answer(14, 0));
+        assert_eq!(evaluate_words(&AND, &mut values, &[a, b], 1), answer(15, 0));
+        assert_eq!(values, [7; 3]);
     }
 
     #[test]

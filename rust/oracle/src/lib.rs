@@ -33,12 +33,13 @@ impl Error for Refusal {}
 /// How many inputs, outputs and nodes a program file has.
 #[derive(Debug, Clone, Copy, PartialEq, Eq)]
 pub struct ProgramHead {
-    /// The number of inputs, at most 64.
+    /// The number of inputs, at most 64: [`evaluate`] takes a byte and [`evaluate_words`] a word for
+    /// each.
     pub inputs: usize,
     /// The number of outputs, 1 to 64: [`quote`] needs an answer for each.
     pub outputs: usize,
-    /// The number of nodes, 1 to 4,096: [`evaluate`], [`compile`] and [`quote`] need an entry for
-    /// each.
+    /// The number of nodes, 1 to 4,096: [`evaluate`], [`evaluate_words`], [`compile`] and [`quote`]
+    /// need an entry for each.
     pub nodes: usize,
 }
 
@@ -62,6 +63,9 @@ impl CircuitHead {
         self.inputs + self.outputs + self.work
     }
 }
+
+/// How many questions [`evaluate_words`] answers at once: one with each bit of a word.
+pub const QUESTIONS: usize = 64;
 
 /// How many numbers [`quote`] needs in its count list for each node.
 pub const COUNT_ENTRY: usize = 8;
@@ -119,6 +123,27 @@ pub fn evaluate(
 ) -> Result<bool, Refusal> {
     let bit = result(archive::evaluate(file, values, inputs, output))?;
     Ok(bit != 0)
+}
+
+/// Evaluates one output of a program file on [`QUESTIONS`] inputs at once, and gives the answers as
+/// a word. Bit k, from the lowest on, belongs to question k in every word here: its inputs are bits k
+/// of the input words, and bit k of the answer is what [`evaluate`] gives for them.
+///
+/// - `file` is only read.
+/// - `values` needs a word for each node. On a result, word i has the values of node i, and the
+///   words past the last node are as they were. On a refusal all of it is as it was.
+/// - `inputs` is only read: one word, any, for each input.
+/// - `output` is the output's number, from 0.
+///
+/// Refusals: 1 to 6 of the file; 7, `values` is too short; 14, `inputs` has the wrong length; 15,
+/// there is no such output.
+pub fn evaluate_words(
+    file: &[u8],
+    values: &mut [u64],
+    inputs: &[u64],
+    output: u64,
+) -> Result<u64, Refusal> {
+    result(archive::evaluate_words(file, values, inputs, output))
 }
 
 /// Compiles a program file to the circuit file that computes its outputs, and gives its length.

@@ -79,46 +79,11 @@ pub fn outputs(file: &[u8], inputs: &[u8], count: usize) -> Vec<u8> {
 
 /// A random call on this file: mostly good arguments, otherwise any of them wrong.
 pub fn drawn(random: &mut Random, file: Vec<u8>) -> Case {
-    // Of a refused file no argument is right, and any will do.
-    let (nodes, inputs, outputs) = match model::program::read(&file) {
-        Ok(program) => (program.nodes.len(), program.inputs, program.outputs.len()),
-        Err(_) => (random.within(1..=24), random.within(0..=64), 1),
-    };
+    let (nodes, inputs, outputs) = super::numbers_or_any(random, &file);
     let good = !random.once_in(3);
-    let values = random_values(random, nodes, good);
+    let length = super::list_about(random, nodes, good);
+    let values = random.bytes(length);
     let inputs = circuit::line_bytes(random, inputs, good);
-    let output = random_output(random, outputs, good);
+    let output = super::random_output(random, outputs, good);
     Case { file, values, inputs, output }
-}
-
-fn random_values(random: &mut Random, nodes: usize, good: bool) -> Vec<u8> {
-    let length = match random.below(if good { 4 } else { 8 }) {
-        0..=1 => nodes,
-        2 => nodes + 1,
-        3 => nodes + random.within(2..=64),
-        4 => nodes - 1,
-        5 => random.below(nodes),
-        6 => 0,
-        _ => nodes,
-    };
-    random.bytes(length)
-}
-
-fn random_output(random: &mut Random, count: usize, good: bool) -> u64 {
-    let output = random.below(count) as u64;
-    if good || random.once_in(3) {
-        return output;
-    }
-    let count = count as u64;
-    let any = random.number();
-    random.pick(&[
-        count,
-        count + 1,
-        output + (1 << 8),
-        output + (1 << 16),
-        output + (1 << 32),
-        output + (1 << 63),
-        u64::MAX,
-        any,
-    ])
 }

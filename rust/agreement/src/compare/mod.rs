@@ -7,6 +7,7 @@ pub mod quote;
 pub mod read;
 pub mod run;
 pub mod undo;
+pub mod words;
 
 use crate::lent::lent;
 use crate::random::Random;
@@ -60,4 +61,46 @@ fn length_about(random: &mut Random, needed: usize) -> usize {
         10 => random.below(needed),
         _ => random.pick(&[0, 2, 22, NO_GATES - 1, NO_GATES]),
     }
+}
+
+/// The nodes, inputs and outputs of a program file to evaluate. Of a refused file no argument is
+/// right, and any will do.
+fn numbers_or_any(random: &mut Random, file: &[u8]) -> (usize, usize, usize) {
+    match model::program::read(file) {
+        Ok(program) => (program.nodes.len(), program.inputs, program.outputs.len()),
+        Err(_) => (random.within(1..=24), random.within(0..=64), 1),
+    }
+}
+
+/// A random length of a value list, enough for so many nodes if it is to be good.
+fn list_about(random: &mut Random, nodes: usize, good: bool) -> usize {
+    match random.below(if good { 4 } else { 8 }) {
+        0..=1 => nodes,
+        2 => nodes + 1,
+        3 => nodes + random.within(2..=64),
+        4 => nodes - 1,
+        5 => random.below(nodes),
+        6 => 0,
+        _ => nodes,
+    }
+}
+
+/// A random number of an output, one of so many if it is to be good.
+fn random_output(random: &mut Random, count: usize, good: bool) -> u64 {
+    let output = random.below(count) as u64;
+    if good || random.once_in(3) {
+        return output;
+    }
+    let count = count as u64;
+    let any = random.number();
+    random.pick(&[
+        count,
+        count + 1,
+        output + (1 << 8),
+        output + (1 << 16),
+        output + (1 << 32),
+        output + (1 << 63),
+        u64::MAX,
+        any,
+    ])
 }

@@ -129,5 +129,5 @@ fn random_list(random: &mut Random, width: usize, entries: usize) -> Vec<u64> {
         12..=13 => needed + random.within(1..=64),
         _ => needed,
     };
-    (0..length).map(|_| random.number()).collect()
+    random.numbers(length)
 }

@@ -1,4 +1,4 @@
-//! The services read_program and evaluate.
+//! The services read_program, evaluate and evaluate_words.
 
 use oracle::ProgramHead;
 
@@ -89,6 +89,33 @@ pub fn evaluate(
         };
     }
     Ok(values[usize::from(node)] == 1)
+}
+
+/// Evaluates one output of a program file on 64 questions, a bit of each word for each.
+pub fn evaluate_words(
+    file: &[u8],
+    values: &mut [u64],
+    inputs: &[u64],
+    output: u64,
+) -> Result<u64, Refused> {
+    let program = read(file)?;
+    let values = values.get_mut(..program.node_count()).ok_or((7, 0))?;
+    if inputs.len() != usize::from(program.inputs) {
+        return Err((14, 0));
+    }
+    let node = program.outputs().nth(output as usize).ok_or((15, 0))?;
+    for i in 0..values.len() {
+        let value = |operand: u16| values[usize::from(operand)];
+        values[i] = match program.node(i as u16) {
+            Node::Zero => 0,
+            Node::One => u64::MAX,
+            Node::Input(j) => inputs[usize::from(j)],
+            Node::Not(a) => !value(a),
+            Node::Xor(a, b) => value(a) ^ value(b),
+            Node::And { a, b, .. } => value(a) & value(b),
+        };
+    }
+    Ok(values[usize::from(node)])
 }
 
 pub fn read(file: &[u8]) -> Result<Program<'_>, Refused> {

@@ -1,0 +1,3 @@
+pub mod WordBitLaws
+pub mod WordCases
+pub mod WordValueLaws

@@ -1,0 +1,3 @@
+pub mod AnswerCases
+pub mod EvaluateWordsLaws
+pub mod QuestionLaws

@@ -1,0 +1,2 @@
+pub mod EvaluatingWords
+pub mod Theorems
