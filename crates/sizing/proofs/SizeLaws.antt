@@ -5,14 +5,16 @@ use native.Mathlib.Nat.{add-zero}
 use mathlib.Core.Path.{_≡_, refl, sym, ap, _∙_}
 use mathlib.Core.Bool.{Bool, true, false}
 use mathlib.Core.List.{List, [], _∷_, _++_, flatMap}
-use lib.ListN.{length, getD, List·getD-append}
+use lib.ListN.{length, getD, take, List·getD-append}
+use lib.Seq.{getD-take, length-take-le}
 use lib.Dec.{leb}
 use borrow.Author.Tests.{leb-true, leb-false, le-leb, lt-leb}
 use Rattle.wire.specs.Limits.{mostSize}
 use Rattle.wire.specs.Shown.{shown}
 use Rattle.refusal.specs.Checks.{lowest}
 use Rattle.refusal.proofs.CheckLaws.{by-test, lowest-same}
-use Rattle.wire.proofs.ShownLaws.{shown-sum, shown-more}
+use Rattle.wire.proofs.FillLaws.{Filled, filled-front}
+use Rattle.wire.proofs.ShownLaws.{shown-few, shown-sum, shown-more}
 use Rattle.node.specs.declared.nodes.Node.{Node}
 use Rattle.node.specs.declared.nodes.Node.the-variants.{Zero, One, Input, Not, Xor, And}
 use Rattle.node.specs.Exprs.{Expr, ZERO, size}
@@ -41,6 +43,14 @@ sizes-length ns = entries-length shownSize ns
 sizes-at : (ns : List Node) (i : ℕ) → i < length ns → getD (nodeSizes ns) i 0 ≡ shownSize (getD (trees ns) i ZERO)
 unfolding nodeSizes
 sizes-at ns i h = entry-at shownSize ns i h
+
+-- where a loop has stored the first entries of a table, each of them is at most 16,385
+pub stored-few : (ns : List Node) {list₀ list : List ℕ} {i : ℕ} → Filled (nodeSizes ns) list₀ list i → (k : ℕ) → k < length (take i list) → getD (take i list) k 0 ≤ mostSize + 1
+stored-few ns {list₀} {list} {i} p k h =
+    let front : take i list ≡ take i (nodeSizes ns) = filled-front p in
+    let low : k < i = omega (arith, ap length front, length-take-le i (nodeSizes ns) (p .within)) in
+    let inside : k < length ns = omega (arith, p .within, sizes-length ns) in
+    rw (front, getD-take i (nodeSizes ns) k 0 low, sizes-at ns k inside) (shown-few mostSize (size (getD (trees ns) k ZERO)))
 
 -- what a node adds to a list of sizes, by its kind: where the list shows the sizes of trees, its entry is made of its operands' entries
 abbrev pub NextSize : Node → List ℕ → ℕ → Type 0

@@ -5,8 +5,8 @@ use program::reader::output_at;
 use wire::limits::MOST_SIZE;
 ghost use mathlib.Core.Path.{_≡_};
 ghost use mathlib.Core.List.{[], _∷_, _++_};
-ghost use Prim.Native.Nat.{ℕ, _+_, _/_, _<_};
-ghost use lib.ListN.{length, drop};
+ghost use Prim.Native.Nat.{ℕ, _+_, _/_, _<_, _≤_};
+ghost use lib.ListN.{length, getD, drop};
 ghost use Rattle.refusal.specs.Checks.{lowest};
 ghost use Rattle.node.specs.Nodes.{nodesIn, NodeOk};
 ghost use Rattle.program.specs.Reading.{outputAt};
@@ -16,20 +16,22 @@ ghost use Rattle.wire.specs.Shown.{shown};
 ghost use Rattle.sizing.specs.Sizing.{shownSize, nodeSizes};
 ghost use Rattle.sizing.specs.Steps.{entryFits};
 
-// A node's entry in the size list, where its operands have these entries.
+// A node's entry in the size list, where its operands have these entries. Neither is over 16,385, so that
+// the sum is at most 32,771.
 fn joined(a: u16, b: u16) -> u16
+    requires { ⌜ (a ≤ mostSize + 1) × (b ≤ mostSize + 1) ⌝ }
     ensures { λ r. ⌜ r ≡ shown mostSize (1 + a + b) ⌝ }
 {
-    let sum = 1 + a as u64 + b as u64;
-    if sum <= MOST_SIZE as u64 {
-        return sum as u16;
+    let sum = 1 + a + b;
+    if sum <= MOST_SIZE {
+        return sum;
     }
     MOST_SIZE + 1
 }
 
 // A node's entry, where sizes has those of the nodes before it.
 fn node_size(node: Node, sizes: &[u16]) -> u16
-    requires { ⌜ ((n : ℕ) × NodeOk n (length (now sizes)) node) ⌝ }
+    requires { ⌜ ((n : ℕ) × NodeOk n (length (now sizes)) node) × ((k : ℕ) → k < length (now sizes) → getD (now sizes) k 0 ≤ mostSize + 1) ⌝ }
     ensures { λ r. ⌜ NextOf (λ e. shownSize e ∷ []) node (now (sizes .entry)) (r ∷ []) ⌝ }
 {
     match node {

@@ -9,6 +9,7 @@ use Rattle.node.specs.Nodes.{nodesIn}
 use Rattle.sizing.specs.Sizing.{shownSize, nodeSizes}
 use Rattle.node.proofs.FilledLaws.{entry-stored, entries-stored}
 use Rattle.node.proofs.TreeLaws.{next-ok}
+use Rattle.sizing.proofs.SizeLaws.{stored-few}
 use Rattle.sizing.proofs.fill_sizes.Statement.{statement}
 use Rattle.sizing.proofs.fill_sizes.Tie as tie
 
@@ -33,7 +34,8 @@ slice-aggregate-node-size c = sym (length-take-le _ _ (omega (arith, c .before .
 node-size-requires : tie.Need-node-size-requires Inv-loop μ-loop
 node-size-requires c κs =
     let pre = c .before .before .before .before .before .before .pre in
-    (pre .0, rw (c .before .node-at .ensures) (next-ok _ _ (c .before .before .loop-test .taken) _ (pre .1) (c .before .before .before .loop .inv .same)))
+    let at = c .before .before .before .loop in
+    ((pre .0, rw (c .before .node-at .ensures) (next-ok _ _ (c .before .before .loop-test .taken) _ (pre .1) (at .inv .same))), stored-few _ (at .inv))
 
 mul-sizes : tie.Need-mul-sizes Inv-loop μ-loop
 mul-sizes c = omega (arith, c .before .before .before .loop-test .taken)

@@ -10,12 +10,6 @@ add-sum c = search needs
 add-sum-2 : tie.Need-add-sum-2
 add-sum-2 c = search needs
 
-cast-if1 : tie.Need-cast-if1
-cast-if1 c = search needs
-
-cast-result : tie.Need-cast-result
-cast-result c = search needs
-
 returns : tie.Need-returns
 unfolding shown
 returns c = omega arith
@@ -28,4 +22,4 @@ unfolding shown
 returns-2 c = omega arith
 
 pub joined-spec : {M : Type 1} → statement M
-joined-spec = tie.close (tie.spec add-sum add-sum-2 cast-if1 cast-result returns add-result returns-2)
+joined-spec = tie.close (tie.spec add-sum add-sum-2 returns add-result returns-2)

@@ -24,10 +24,13 @@ mul-joined : tie.Need-mul-joined
 mul-joined c = search needs
 
 shared-slice-read-joined : tie.Need-shared-slice-read-joined
-shared-slice-read-joined c = not-operand _ _ (c .before .before .before .before .before .pre .1) (c .before .before .node .given .1)
+shared-slice-read-joined c = not-operand _ _ (c .before .before .before .before .before .pre .0 .1) (c .before .before .node .given .1)
 
 joined-requires : tie.Need-joined-requires
-joined-requires c κs = search needs
+joined-requires c κs =
+    let pre = c .before .before .before .before .before .pre in
+    let only = pre .1 _ (not-operand _ _ (pre .0 .1) (c .before .before .node .given .1)) in
+    (omega (arith, only), omega arith)
 
 enum-known-node-2 : tie.Need-enum-known-node-2
 enum-known-node-2 c = search needs
@@ -40,7 +43,7 @@ mul-joined-2 c = search needs
 
 shared-slice-read-joined-2 : tie.Need-shared-slice-read-joined-2
 shared-slice-read-joined-2 c =
-    let o = xor-operands _ _ (c .before .before .before .before .before .pre .1) (c .before .before .node2 .given .1) in
+    let o = xor-operands _ _ (c .before .before .before .before .before .pre .0 .1) (c .before .before .node2 .given .1) in
     omega (arith, o .0, o .1)
 
 cast-joined-3 : tie.Need-cast-joined-3
@@ -51,11 +54,16 @@ mul-joined-3 c = search needs
 
 shared-slice-read-joined-3 : tie.Need-shared-slice-read-joined-3
 shared-slice-read-joined-3 c =
-    let o = xor-operands _ _ (c .before .before .before .before .before .before .pre .1) (c .before .before .before .node2 .given .1) in
+    let o = xor-operands _ _ (c .before .before .before .before .before .before .pre .0 .1) (c .before .before .before .node2 .given .1) in
     omega (arith, o .0, o .1)
 
 joined-requires-2 : tie.Need-joined-requires-2
-joined-requires-2 c κs = search needs
+joined-requires-2 c κs =
+    let pre = c .before .before .before .before .before .before .pre in
+    let o = xor-operands _ _ (pre .0 .1) (c .before .before .before .node2 .given .1) in
+    let first = pre .1 _ (o .0) in
+    let second = pre .1 _ (o .1) in
+    (omega (arith, first, second), omega (arith, first, second))
 
 enum-known-node-3 : tie.Need-enum-known-node-3
 enum-known-node-3 c = search needs
@@ -68,7 +76,7 @@ mul-joined-4 c = search needs
 
 shared-slice-read-joined-4 : tie.Need-shared-slice-read-joined-4
 shared-slice-read-joined-4 c =
-    let o = and-operands _ _ (c .before .before .before .before .before .pre .1) (c .before .before .node3 .given .1) in
+    let o = and-operands _ _ (c .before .before .before .before .before .pre .0 .1) (c .before .before .node3 .given .1) in
     omega (arith, o .0, o .1)
 
 cast-joined-5 : tie.Need-cast-joined-5
@@ -79,11 +87,16 @@ mul-joined-5 c = search needs
 
 shared-slice-read-joined-5 : tie.Need-shared-slice-read-joined-5
 shared-slice-read-joined-5 c =
-    let o = and-operands _ _ (c .before .before .before .before .before .before .pre .1) (c .before .before .before .node3 .given .1) in
+    let o = and-operands _ _ (c .before .before .before .before .before .before .pre .0 .1) (c .before .before .before .node3 .given .1) in
     omega (arith, o .0, o .1)
 
 joined-requires-3 : tie.Need-joined-requires-3
-joined-requires-3 c κs = search needs
+joined-requires-3 c κs =
+    let pre = c .before .before .before .before .before .before .pre in
+    let o = and-operands _ _ (pre .0 .1) (c .before .before .before .node3 .given .1) in
+    let first = pre .1 _ (o .0) in
+    let second = pre .1 _ (o .1) in
+    (omega (arith, first, second), omega (arith, first, second))
 
 returns : tie.Need-returns
 returns c ts e = rw (c .enum-told .given .1) (next-zero _ ts e)
@@ -97,17 +110,17 @@ returns-3 c ts e = rw (c .enum-told3 .given .1) (next-input _ _ ts e)
 returns-4 : tie.Need-returns-4
 returns-4 c ts e =
     let o = c .before .before .before .node .given in
-    rw (o .1) (next-not (o .0 .0) (not-operand _ _ (c .before .before .before .before .before .before .pre .1) (o .1)) (c .joined .ensures) ts e)
+    rw (o .1) (next-not (o .0 .0) (not-operand _ _ (c .before .before .before .before .before .before .pre .0 .1) (o .1)) (c .joined .ensures) ts e)
 
 returns-5 : tie.Need-returns-5
 returns-5 c ts e =
     let o = c .before .before .before .before .node2 .given in
-    rw (o .1) (next-xor (o .0 .0) (o .0 .1 .0) (xor-operands _ _ (c .before .before .before .before .before .before .before .pre .1) (o .1)) (c .joined2 .ensures) ts e)
+    rw (o .1) (next-xor (o .0 .0) (o .0 .1 .0) (xor-operands _ _ (c .before .before .before .before .before .before .before .pre .0 .1) (o .1)) (c .joined2 .ensures) ts e)
 
 returns-6 : tie.Need-returns-6
 returns-6 c ts e =
     let o = c .before .before .before .before .node3 .given in
-    rw (o .1) (next-and (o .0 .1 .0) (o .0 .1 .1 .0) (and-operands _ _ (c .before .before .before .before .before .before .before .pre .1) (o .1)) (c .joined3 .ensures) (o .0 .0) ts e)
+    rw (o .1) (next-and (o .0 .1 .0) (o .0 .1 .1 .0) (and-operands _ _ (c .before .before .before .before .before .before .before .pre .0 .1) (o .1)) (c .joined3 .ensures) (o .0 .0) ts e)
 
 pub node-size-spec : {M : Type 1} → statement M
 node-size-spec =
