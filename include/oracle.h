@@ -3,7 +3,7 @@
  * Every function takes any bytes, any lengths and any numbers, ends, and touches nothing but the
  * areas lent to it. An area is a pointer and its length; where the length is 0 the pointer may be
  * null. Areas of one call must not overlap. Nothing is kept after a call: no heap, no state. A call
- * takes a few hundred bytes of stack; oracle_compile takes more, and says how much.
+ * takes a few hundred bytes of stack; oracle_parse and oracle_compile take more, and say how much.
  */
 #ifndef ORACLE_H
 #define ORACLE_H
@@ -47,6 +47,35 @@ typedef struct {
     uint64_t outputs;
     uint64_t work;
 } oracle_head;
+
+/* Parses a formula, typed as ASCII text, and writes its program file, with one output and no mark.
+ *
+ * A text of the language is a sum. A sum is products joined by ^, a product is factors joined by &,
+ * and a factor is ! and a factor, a sum in brackets ( and ), 0, 1, or x and the number of an input:
+ * one digit, or two not starting with 0. There are no blanks and no newline. ^ is XOR, & is AND, !
+ * is NOT; & binds closer than ^, and both group to the left. Each ^, &, !, 0, 1 and input of the
+ * text makes a node when its text ends, and the last node is the output; brackets make none, and no
+ * node is shared.
+ *
+ * inputs  the number of inputs of the program, at most 64; the text need not name all of them.
+ * area    38 bytes, and 6 for each node, at least. A text makes at most a node for each byte, so
+ *         24,614 bytes are always enough, and a text of 4,096 bytes can need them. After a result
+ *         the file written is at its start, and the bytes behind it are as they were. After refusal
+ *         11 all of it is zero. After any other refusal it is as it was.
+ *
+ * Result: value is the number of bytes written. Refusals, in this order: 17, the text has over
+ * 4,096 bytes; 4, inputs is over 64; then from the first byte on, the first of 16, no text of the
+ * language goes on so, the place being the length of the longest prefix with which some text begins
+ * (an unfinished text has its own length), 18, the byte opens one more than 64 brackets and !
+ * together (a bracket is open up to its ), a ! until its factor ends), the place being that byte,
+ * and 5, the number of an input is not below inputs, the place being the node that it would have
+ * been; last of all 11, the place being the number of nodes. The text is only read.
+ *
+ * Stack: the nodes are made beside the area, and what reads sums, products and factors calls itself
+ * up to 64 deep. The deepest texts that were tried took 49,152 bytes.
+ */
+oracle_answer oracle_parse(const uint8_t *text, size_t text_length, uint64_t inputs,
+                           uint8_t *area, size_t area_length);
 
 /* Reads and checks a program file.
  *

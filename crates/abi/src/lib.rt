@@ -4,6 +4,7 @@ use circuit::reader::CircuitHead;
 use circuit::reader::CircuitRead;
 use compile::Compiled;
 use evaluate::Evaluated;
+use formula::Parsed;
 use program::reader::ProgramRead;
 use quote::Quoted;
 use refusal::causes::Refusal;
@@ -22,6 +23,7 @@ ghost use Rattle.run.specs.RunCircuit.{ran};
 ghost use Rattle.undo.specs.UndoCircuit.{undone};
 ghost use Rattle.compile.specs.Answers.{compiled};
 ghost use Rattle.quote.specs.Answers.{quoted};
+ghost use Rattle.formula.specs.Answers.{parsed};
 ghost use Rattle.abi.specs.Exported.{exported, exportedHead};
 ghost use Rattle.abi.specs.Steps.{programNumbers, circuitNumbers, fileBytes, FewGates};
 
@@ -64,6 +66,19 @@ fn refused_head(why: Refusal) -> OracleHead
         inputs: 0,
         outputs: 0,
         work: 0,
+    }
+}
+
+// What parsing a formula answers; the value of a result is the number of bytes written.
+pub fn parse_answer(answer: Parsed) -> OracleAnswer
+    ensures { λ r. ⌜ r ≡ exported (parsed answer) ⌝ }
+{
+    match answer {
+        Parsed::Written(bytes) => OracleAnswer {
+            number: 0,
+            value: bytes as u64,
+        },
+        Parsed::Refused(why) => refusal(why),
     }
 }
 

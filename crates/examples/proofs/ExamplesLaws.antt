@@ -4,6 +4,7 @@ use native.Mathlib.Omega.{arith}
 use mathlib.Core.Path.{refl, ap}
 use mathlib.Core.List.{List, [], _∷_, flatMap}
 use borrow.Author.Tests.{leb-true}
+use Rattle.wire.specs.Ascii.{ascii}
 use Rattle.wire.specs.Bits.{xorBit, bitsFit}
 use Rattle.refusal.specs.Checks.{lowestFrom}
 use Rattle.contents.specs.Contents.{tableFits, entriesFrom, entriesFit, entriesBytes, contentsBytes}
@@ -32,11 +33,16 @@ use Rattle.wire.specs.Shown.{shown}
 use Rattle.compilation.specs.Compiling.{outputTrees, programCircuit}
 use Rattle.line.specs.Lines.{digitCount, decimal, field, line, refusedLine}
 use Rattle.text.specs.Listings.{gateLine, firstLine, listing}
+use Rattle.grammar.specs.FormulaNodes.{sumCount, productCount, factorCount, sumNodes, productNodes, factorNodes}
+use Rattle.automaton.specs.States.{openSum, openProduct, openFactor, opened, madeSum, madeProduct, madeFactor, made}
+use Rattle.automaton.specs.Automaton.{productWith, outsideFactor, afterFactor, sumWith, outsideProduct, readBehind, readFactorByte, longer, readByte, finishSum, finishProduct, finish, inputFits, withinLimits, onward, readRest, readText}
+use Rattle.parsing.specs.Parsing.{parseText, parseOf}
 use Rattle.examples.specs.Examples.{wholeFile, norFile, threeFile, markedFile, xorFile, Examples}
 use Rattle.examples.proofs.RowLaws.{Known, lines-refused, area-refused, written, lists-refused, row}
+use Rattle.examples.proofs.TypedLaws.{typed, typed-short}
 
 pub examples : Examples
-unfolding programFile nodeBytes readProgram readBodies tableFits entriesFit entriesFrom lengthsFit arityFits nodeFits markFits operandsFit outputFits programOf nodeAt lowestFrom size nodeSizes shown programCircuit outputTrees outputTree tabulateFrom trees treesFrom treeOf construction.circuitGates allShares shares share build inputOf operand andGate cleaning cleaned isAmong allFree lowestFree takeLine release linesNeeded gatesShown uncompute without target circuitFile openingBytes contentsBytes entriesBytes gatesBytes gateBytes runForwards circuit.readWithLines circuit.readCircuit circuit.readHead circuit.headIn circuit.circuitOf circuit.lengthsFit circuit.rangesFit gateFits fieldsFit wellFormed lowerFirst linesFit gateAt bitsFit run step addend xorBit listing firstLine gateLine refusedLine line field decimal digitCount flatMap
+unfolding programFile nodeBytes readProgram readBodies tableFits entriesFit entriesFrom lengthsFit arityFits nodeFits markFits operandsFit outputFits programOf nodeAt lowestFrom size nodeSizes shown programCircuit outputTrees outputTree tabulateFrom trees treesFrom treeOf construction.circuitGates allShares shares share build inputOf operand andGate cleaning cleaned isAmong allFree lowestFree takeLine release linesNeeded gatesShown uncompute without target circuitFile openingBytes contentsBytes entriesBytes gatesBytes gateBytes runForwards circuit.readWithLines circuit.readCircuit circuit.readHead circuit.headIn circuit.circuitOf circuit.lengthsFit circuit.rangesFit gateFits fieldsFit wellFormed lowerFirst linesFit gateAt bitsFit run step addend xorBit listing firstLine gateLine refusedLine line field decimal digitCount flatMap readText readRest onward withinLimits inputFits opened openFactor openProduct openSum made madeFactor madeProduct madeSum readByte readFactorByte readBehind longer afterFactor productWith outsideFactor sumWith outsideProduct finish finishProduct finishSum sumCount productCount factorCount sumNodes productNodes factorNodes parseText parseOf
 examples =
     let whole : Known wholeFile = record { reads = refl; small = refl; few = omega arith } in
     let nor : Known norFile = record { reads = refl; small = refl; few = omega arith } in
@@ -58,6 +64,10 @@ examples =
       three-refused = lists-refused three 0 (omega arith) (omega arith) (omega arith);
       three-target = λ grant sizes area a b c d. ap (λ (file : List ℕ). runForwards file (1 ∷ 1 ∷ 1 ∷ 1 ∷ 0 ∷ [])) (written three grant sizes area a b c d);
       three-line = λ grant sizes area a b c d. ap (λ (file : List ℕ). runForwards file (1 ∷ 1 ∷ 1 ∷ 1 ∷ 1 ∷ [])) (written three grant sizes area a b c d);
+      three-typed = λ area. typed (ascii "x0&x1&x2") 3 area _ refl;
+      three-area = λ area. typed-short (ascii "x0&x1&x2") 3 area _ refl 67 (omega arith);
+      three-inputs = λ area. refl;
+      three-outside = λ area. refl;
       marked = row marked _ (omega arith) (omega arith) (leb-true _ (fileLength mostGates) refl) refl refl;
       marked-two = refl;
       xor-self = row xor _ (omega arith) (omega arith) (leb-true _ (fileLength mostGates) refl) refl refl;

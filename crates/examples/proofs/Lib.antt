@@ -1,2 +1,3 @@
 pub mod ExamplesLaws
 pub mod RowLaws
+pub mod TypedLaws

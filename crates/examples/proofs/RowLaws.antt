@@ -6,6 +6,7 @@ use mathlib.Core.Path.{_≡_, refl, sym, ap, _∙_}
 use mathlib.Core.List.{List, _++_}
 use lib.ListN.{length, drop, replicate}
 use borrow.Author.Tests.{le-leb}
+use Rattle.wire.specs.Ascii.{ascii}
 use Rattle.wire.specs.Limits.{mostGates, mostNodes, mostWork}
 use Rattle.refusal.specs.Answers.{Answer, result, refused, refuse, mapAnswer}
 use Rattle.refusal.specs.Checks.{lowest}
@@ -25,7 +26,6 @@ use Rattle.compilation.specs.Demand.{fileWritten}
 use Rattle.compilation.proofs.AcceptedLaws as compile
 use Rattle.compile.proofs.CompileLaws.{sized}
 use Rattle.compilation.proofs.ProgramLaws.{sizeFits, all-small, lines-short, area-short, fits}
-use Rattle.line.specs.Lines.{ascii}
 use Rattle.text.specs.Listings.{listing}
 use Rattle.list.specs.Listing.{listingOf}
 use Rattle.examples.specs.Examples.{CompiledCase}

@@ -1,4 +1,4 @@
--- The starred examples of 01 and the cases of 02, as one table about the definitions of reading, compiling, running and listing, and the bytes of program files and of two circuit files.
+-- The starred examples of 01 and the cases of 02, as one table about the definitions of parsing, reading, compiling, running and listing, and the bytes of program files and of two circuit files.
 use Prim.Native.Nat.{ℕ, _≤_}
 use Prim.Native.String.{String}
 use mathlib.Core.Path.{_≡_}
@@ -6,6 +6,7 @@ use mathlib.Core.Bool.{true, false}
 use mathlib.Core.List.{List, [], _∷_, _++_}
 use lib.ListN.{length, take, drop, replicate}
 use Rattle.refusal.specs.Answers.{result, refused}
+use Rattle.wire.specs.Ascii.{ascii}
 use Rattle.gate.specs.declared.gates.Gate.the-variants.{Cnot, Toffoli}
 use Rattle.gate.specs.declared.gates.Gate.the-variants as gate
 use Rattle.circuit.specs.Circuits.{Circuit, headOf}
@@ -19,8 +20,8 @@ use Rattle.program.specs.Format.{programFile}
 use Rattle.program.specs.Reading.{readProgram}
 use Rattle.compilation.specs.Compiling.{compileOf}
 use Rattle.compilation.specs.Demand.{fileWritten}
-use Rattle.line.specs.Lines.{ascii}
 use Rattle.list.specs.Listing.{listingOf}
+use Rattle.parsing.specs.Parsing.{parseOf}
 
 -- the file of the whole case, in hex as in 01: the table of contents, the numbers of inputs and outputs, the nodes, the output's node
 abbrev pub wholeFile : List ℕ
@@ -187,6 +188,11 @@ pub record Examples : Type 0 where
   pub three-target : RunCase threeFile 5 threeCircuit (1 ∷ 1 ∷ 1 ∷ 1 ∷ 0 ∷ []) (1 ∷ 1 ∷ 1 ∷ 0 ∷ 0 ∷ [])
   -- with line 4 starting at 1, the target stays 1 and line 4 ends 1
   pub three-line : RunCase threeFile 5 threeCircuit (1 ∷ 1 ∷ 1 ∷ 1 ∷ 1 ∷ []) (1 ∷ 1 ∷ 1 ∷ 1 ∷ 1 ∷ [])
+  -- typed (02, A6), it is this file; an area that is a byte short gives 11, place 5, and is all zero; a refused text leaves the area as it was
+  pub three-typed : (area : List ℕ) → 68 ≤ length area → parseOf (ascii "x0&x1&x2") 3 area ≡ record { answer = result 68; area = threeFile ++ drop 68 area }
+  pub three-area : (area : List ℕ) → length area ≡ 67 → parseOf (ascii "x0&x1&x2") 3 area ≡ record { answer = refused 11 5; area = replicate 67 0 }
+  pub three-inputs : (area : List ℕ) → parseOf (ascii "x0&x1&x2") 2 area ≡ record { answer = refused 5 3; area = area }
+  pub three-outside : (area : List ℕ) → parseOf (ascii "x0&x1&x") 3 area ≡ record { answer = refused 16 7; area = area }
   -- with its last AND marked (02, A7), what made its operands is undone behind it, and both again at the end
   pub marked : CompiledCase markedFile (record { inputs = 3; nodes = Input 0 ∷ Input 1 ∷ And false 0 1 ∷ Input 2 ∷ And true 2 3 ∷ []; outputs = 4 ∷ [] }) (1 ∷ 1 ∷ 3 ∷ 1 ∷ 5 ∷ []) markedCircuit
       "lines 3 1 1 gates 5\nT 0 1 4\nT 2 4 3\nT 0 1 4\nT 0 1 4\nT 0 1 4\n"

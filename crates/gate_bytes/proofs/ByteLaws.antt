@@ -1,12 +1,12 @@
 -- Laws of the bytes of gates. Assumes nothing.
 use Prim.Native.Nat.{ℕ, _+_, _*_}
-use native.Mathlib.Numerals.{towards-suc}
 use mathlib.Core.Path.{_≡_, refl, sym, ap, _∙_}
 use mathlib.Core.List.{List, [], _∷_, _++_, append-assoc, flatMap}
 use lib.ListN.{length, set}
 use lib.Seq.{sets}
 use Rattle.wire.specs.Bytes.{bytes16}
-use Rattle.wire.proofs.ListLaws.{flat-length}
+use Rattle.wire.proofs.ByteLaws.{fields-stored}
+use Rattle.wire.proofs.ListLaws.{sets-then, flat-length}
 use Rattle.gate.specs.declared.gates.Gate.{Gate}
 use Rattle.gate.specs.declared.gates.Gate.the-variants.{Not, Cnot, Toffoli}
 use Rattle.gate_bytes.specs.GateBytes.{fieldBytes, gateBytes, gatesBytes}
@@ -19,8 +19,8 @@ pub field-stores : (l : List ℕ) (at kind a b t : ℕ) {l₁ l₂ l₃ : List �
     → l₃ ≡ sets l at (fieldBytes kind a b t)
 field-stores l at kind a b t e₁ e₂ e₃ =
     e₃
-    ∙ ap (λ (x : List ℕ). sets x (at + 6) (bytes16 t)) (e₂ ∙ ap (λ (x : List ℕ). sets x (at + 4) (bytes16 b)) e₁)
-    ∙ simp towards-suc
+    ∙ ap (λ (x : List ℕ). sets x (at + 6) (bytes16 t)) (fields-stored l at kind 0 a b e₁ e₂)
+    ∙ sets-then l at (at + 6) (kind ∷ 0 ∷ (bytes16 a ++ bytes16 b)) (bytes16 t) refl
 
 -- a gate takes eight bytes
 pub gate-length : (g : Gate) → length (gateBytes g) ≡ 8

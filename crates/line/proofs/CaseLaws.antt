@@ -2,7 +2,8 @@
 use mathlib.Core.Path.{_≡_, refl}
 use mathlib.Core.List.{flatMap}
 use Rattle.refusal.specs.Checks.{lowestFrom}
-use Rattle.line.specs.Lines.{ascii, digitCount, decimal, field, line, refusedLine}
+use Rattle.wire.specs.Ascii.{ascii}
+use Rattle.line.specs.Lines.{digitCount, decimal, field, line, refusedLine}
 
 -- the line of a refusal, with numbers of several digits
 pub refused-case : refusedLine 11 8001 ≡ ascii "refused 11 8001\n"

@@ -3,10 +3,10 @@ use Prim.Native.Nat.{ℕ, suc, _+_, _<_, _≤_}
 use native.Mathlib.Omega.{arith}
 use native.Mathlib.Nat.{add-zero}
 use mathlib.Core.Path.{_≡_, refl, sym, ap, _∙_}
-use mathlib.Core.List.{List, [], _∷_, _++_, append-assoc, append-nil, flatMap}
+use mathlib.Core.List.{List, [], _∷_, _++_, append-nil, flatMap}
 use lib.ListN.{length, getD, take, drop, set, length-append, length-set}
 use lib.Seq.{sets, length-sets, split-at, take-all}
-use Rattle.wire.proofs.ListLaws.{sets-then, take-next}
+use Rattle.wire.proofs.ListLaws.{sets-then, take-next, flat-append}
 use Rattle.line.specs.Lines.{decimal, field}
 use Rattle.line.specs.Putting.{Put, TextFits}
 
@@ -51,19 +51,6 @@ module _ (n : ℕ) {at : ℕ} {l : List ℕ} where
   unfolding field
   field-put p = put-then (put-byte l at 32) p
 
--- the texts of two lists of elements stand one behind the other
-flatMap-append : {A : Type 0} (text : A → List ℕ) (xs ys : List A) → flatMap text (xs ++ ys) ≡ flatMap text xs ++ flatMap text ys
-unfolding flatMap
-flatMap-append text [] ys = refl
-flatMap-append text (x ∷ xs) ys =
-    ap (λ (l : List ℕ). text x ++ l) (flatMap-append text xs ys) ∙ sym (append-assoc (text x) (flatMap text xs) (flatMap text ys))
-
--- every byte by itself is the word
-pub flatMap-bytes : (word : List ℕ) → flatMap (λ (b : ℕ). b ∷ []) word ≡ word
-unfolding flatMap
-flatMap-bytes [] = refl
-flatMap-bytes (b ∷ word) = ap (λ (l : List ℕ). b ∷ l) (flatMap-bytes word)
-
 -- a loop has put the texts of the first i elements, and they end at m
 pub record EachPut {A : Type 0} (text : A → List ℕ) (all : List A) (at : ℕ) (old new : List ℕ) (i m : ℕ) : Type 0 where
   pub within : i ≤ length all
@@ -82,7 +69,7 @@ module _ {A : Type 0} (text : A → List ℕ) (all : List A) (at : ℕ) (old : L
     split : flatMap text all ≡ flatMap text (take i all) ++ (text (getD all i d) ++ flatMap text (drop (suc i) all))
     split =
         ap (flatMap text) (split-at all i d h)
-        ∙ flatMap-append text (take i all) (getD all i d ∷ drop (suc i) all)
+        ∙ flat-append text (take i all) (getD all i d ∷ drop (suc i) all)
         ∙ (unfold flatMap in refl)
 
     pub each-fits : TextFits (flatMap text all) at old → TextFits (text (getD all i d)) m new
@@ -91,7 +78,7 @@ module _ {A : Type 0} (text : A → List ℕ) (all : List A) (at : ℕ) (old : L
     one-more : flatMap text (take (i + 1) all) ≡ flatMap text (take i all) ++ text (getD all i d)
     one-more =
         ap (flatMap text) (take-next all i d h)
-        ∙ flatMap-append text (take i all) (getD all i d ∷ [])
+        ∙ flat-append text (take i all) (getD all i d ∷ [])
         ∙ (unfold flatMap in ap (λ (l : List ℕ). flatMap text (take i all) ++ l) (append-nil (text (getD all i d))))
 
     pub each-next : {new₁ : List ℕ} {r : ℕ} → Put (text (getD all i d)) m r new new₁ → EachPut text all at old new₁ (i + 1) r

@@ -1,17 +1,10 @@
 -- A line of text in ASCII: a word, numbers in decimal, each behind one blank, and a newline.
 use Prim.Native.Nat.{ℕ, _^_}
-use Prim.Native.Char.{code}
-use Prim.Native.String.{String}
-use Prim.Native.String as string
 use mathlib.Core.List.{List, [], _∷_, _++_, flatMap}
 use lib.Dec.{leb}
 use Rattle.io.specs.Digits.{digits}
 use Rattle.refusal.specs.Checks.{lowestFrom}
-
--- the codes of a text's characters
-abbrev pub ascii : String → List ℕ
-ascii string.[] = []
-ascii (string._∷_ c s) = code c ∷ ascii s
+use Rattle.wire.specs.Ascii.{ascii}
 
 -- how many decimal digits a number takes, up to the 20 of a 64-bit number
 unfoldable pub digitCount : ℕ → ℕ

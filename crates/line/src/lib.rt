@@ -1,6 +1,7 @@
 // A line of text put into a lent buffer: a word and numbers, and that of a refusal. Each function
 // answers where its text ends.
 use refusal::causes::Refusal;
+use wire::areas::store;
 ghost use mathlib.Core.List.{flatMap};
 ghost use Rattle.refusal.specs.Answers.{numberOf, placeOf};
 ghost use Rattle.line.specs.Lines.{field, line, refusedLine};
@@ -11,12 +12,8 @@ pub fn put_word(out: &mut [u8], at: usize, word: &[u8]) -> usize
     requires { ⌜ TextFits (now word) at (now out) ⌝ }
     ensures { λ r. ⌜ Put (now (word .entry)) at r (now (out .entry)) (now (out .exit)) ⌝ }
 {
-    let mut i = 0;
-    while i < word.len() {
-        out[at + i] = word[i];
-        i += 1;
-    }
-    at + i
+    store(out, at, word);
+    at + word.len()
 }
 
 // Puts one blank and a number in decimal.

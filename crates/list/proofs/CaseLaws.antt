@@ -2,10 +2,11 @@
 use mathlib.Core.Path.{_≡_, refl}
 use mathlib.Core.List.{[], flatMap}
 use Rattle.refusal.specs.Checks.{lowestFrom}
+use Rattle.wire.specs.Ascii.{ascii}
 use Rattle.contents.specs.Contents.{tableFits}
 use Rattle.program.specs.Reading.{readProgram}
 use Rattle.compilation.specs.Compiling.{readWithSizes, compileFile}
-use Rattle.line.specs.Lines.{ascii, digitCount, decimal, field, line, refusedLine}
+use Rattle.line.specs.Lines.{digitCount, decimal, field, line, refusedLine}
 use Rattle.text.specs.Listings.{listing}
 use Rattle.list.specs.Listing.{listingOf}
 

@@ -5,6 +5,7 @@ use abi::OracleHead;
 use abi::circuit_answer;
 use abi::compile_answer;
 use abi::evaluate_answer;
+use abi::parse_answer;
 use abi::program_answer;
 use abi::quote_answer;
 use abi::run_answer;
@@ -13,6 +14,7 @@ use abi::words_answer;
 use circuit::reader::read_circuit;
 use compile::compile;
 use evaluate::evaluate;
+use formula::parse;
 use program::reader::read_program;
 use quote::quote;
 use run::run_backwards;
@@ -32,8 +34,19 @@ ghost use Rattle.evaluate.specs.Evaluating.{evaluateOf};
 ghost use Rattle.words.specs.EvaluatingWords.{evaluateWordsOf};
 ghost use Rattle.compilation.specs.Compiling.{compileOf};
 ghost use Rattle.quotation.specs.Quoting.{quoteOf};
+ghost use Rattle.parsing.specs.Parsing.{parseOf};
 ghost use Rattle.abi.specs.Exported.{exported, exportedHead, programHead, circuitHead};
 ghost use Rattle.oracle.specs.Exported.{ExportedDemand3};
+
+// Parses a formula over so many inputs and writes its program file; the value of a result is the
+// number of bytes written.
+#[no_mangle]
+pub extern "C" fn oracle_parse(text: &[u8], inputs: u64, area: &mut [u8]) -> OracleAnswer
+    ensures { λ r. ⌜ r ≡ exported (parseOf (now (text .entry)) inputs (now (area .entry)) .answer) ⌝ }
+    ensures { λ _. ⌜ now (area .exit) ≡ parseOf (now (text .entry)) inputs (now (area .entry)) .area ⌝ }
+{
+    parse_answer(parse(text, inputs, area))
+}
 
 // Reads a program file; the value of a result is the number of nodes.
 #[no_mangle]

@@ -104,3 +104,6 @@ number-some (cause.Gate p) = omega arith
 number-some cause.LineBytes = omega arith
 number-some cause.InputBytes = omega arith
 number-some cause.OutputNumber = omega arith
+number-some (cause.Text p) = omega arith
+number-some cause.TextLength = omega arith
+number-some (cause.Depth p) = omega arith

@@ -10,7 +10,7 @@ pub record Numbered : Type 0 where
   pub number : ℕ
   pub place : ℕ
 
--- the number and the place of each cause, as 01's table has them
+-- the number and the place of each cause, as 01's table and 02 have them
 abbrev pub numbered : Refusal → Numbered
 numbered cause.Table = record { number = 1; place = 0 }
 numbered cause.Contents = record { number = 2; place = 0 }
@@ -27,6 +27,9 @@ numbered (cause.Gate i) = record { number = 12; place = i }
 numbered cause.LineBytes = record { number = 13; place = 0 }
 numbered cause.InputBytes = record { number = 14; place = 0 }
 numbered cause.OutputNumber = record { number = 15; place = 0 }
+numbered (cause.Text p) = record { number = 16; place = p }
+numbered cause.TextLength = record { number = 17; place = 0 }
+numbered (cause.Depth p) = record { number = 18; place = p }
 
 -- the number of a refusal
 abbrev pub numberOf : Refusal → ℕ

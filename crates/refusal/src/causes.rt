@@ -12,7 +12,7 @@ pub enum Refusal {
     BodyLength,
     // The number of inputs, outputs or work lines is out of range.
     Range,
-    // The node with this index is not in order.
+    // The node with this index is not in order; of a text, the input that it would be is not there.
     Node(u64),
     // The output with this index names no node.
     Output(u64),
@@ -24,7 +24,7 @@ pub enum Refusal {
     Grant,
     // So many work lines are needed, more than granted.
     WorkLines(u64),
-    // So many gates are needed: too many, or more than the area has room for.
+    // So many gates, or nodes, are needed: too many, or more than the area has room for.
     Room(u64),
     // The gate with this index is not in order.
     Gate(u64),
@@ -34,6 +34,12 @@ pub enum Refusal {
     InputBytes,
     // No output has this number.
     OutputNumber,
+    // The text is outside the language; this many bytes are the most that some text of it begins with.
+    Text(u64),
+    // The text is too long.
+    TextLength,
+    // The byte with this index opens a bracket or a ! more than may be open together.
+    Depth(u64),
 }
 
 impl Refusal {
@@ -57,6 +63,9 @@ impl Refusal {
             Refusal::LineBytes => 13,
             Refusal::InputBytes => 14,
             Refusal::OutputNumber => 15,
+            Refusal::Text(_) => 16,
+            Refusal::TextLength => 17,
+            Refusal::Depth(_) => 18,
         }
     }
 
@@ -80,6 +89,9 @@ impl Refusal {
             Refusal::LineBytes => 0,
             Refusal::InputBytes => 0,
             Refusal::OutputNumber => 0,
+            Refusal::Text(p) => p,
+            Refusal::TextLength => 0,
+            Refusal::Depth(p) => p,
         }
     }
 }

@@ -3,8 +3,9 @@ use mathlib.Core.Path.{_≡_, refl}
 use mathlib.Core.List.{[], _∷_, flatMap}
 use Rattle.refusal.specs.Answers.{result}
 use Rattle.refusal.specs.Checks.{lowestFrom}
+use Rattle.wire.specs.Ascii.{ascii}
 use Rattle.gate.specs.declared.gates.Gate.the-variants.{Not, Cnot, Toffoli}
-use Rattle.line.specs.Lines.{ascii, digitCount, decimal, field, line}
+use Rattle.line.specs.Lines.{digitCount, decimal, field, line}
 use Rattle.text.specs.Listings.{gateLine, firstLine, listing}
 
 -- a circuit with a gate of each kind

@@ -5,13 +5,14 @@ use mathlib.Core.Path.{_≡_, refl, ap}
 use mathlib.Core.List.{List, [], _∷_, _++_, append-nil, flatMap}
 use lib.ListN.{length, length-append}
 use Rattle.refusal.specs.Answers.{Answer, result, refused}
+use Rattle.wire.specs.Ascii.{ascii}
 use Rattle.gate.specs.declared.gates.Gate.{Gate}
 use Rattle.gate.specs.declared.gates.Gate.the-variants.{Not, Cnot, Toffoli}
 use Rattle.gate.specs.Gates.{WellFormed, All}
 use Rattle.gate.proofs.WellFormedLaws.{CnotLines, ToffoliLines, not-line, cnot-lines, toffoli-lines}
 use Rattle.circuit.specs.declared.reader.CircuitHead.{CircuitHead}
 use Rattle.circuit.specs.Circuits.{Circuit, Legal, lineCount, headOf}
-use Rattle.line.specs.Lines.{ascii, field, line, refusedLine}
+use Rattle.line.specs.Lines.{field, line, refusedLine}
 use Rattle.text.specs.Listings.{gateLine, gateLines, firstLine, listing, longestListing}
 use Rattle.line.proofs.DigitLaws.{field-most, field-small}
 

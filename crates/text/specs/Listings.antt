@@ -1,13 +1,14 @@
 -- The lines of a listing (01), in ASCII.
 use Prim.Native.Nat.{ℕ, _+_, _*_}
 use mathlib.Core.List.{List, [], _∷_, _++_, flatMap}
+use Rattle.wire.specs.Ascii.{ascii}
 use Rattle.wire.specs.Limits.{mostGates}
 use Rattle.refusal.specs.Answers.{Answer, result, refused}
 use Rattle.gate.specs.declared.gates.Gate.{Gate}
 use Rattle.gate.specs.declared.gates.Gate.the-variants.{Not, Cnot, Toffoli}
 use Rattle.circuit.specs.declared.reader.CircuitHead.{CircuitHead}
 use Rattle.circuit.specs.Circuits.{Circuit, headOf}
-use Rattle.line.specs.Lines.{ascii, field, line, refusedLine}
+use Rattle.line.specs.Lines.{field, line, refusedLine}
 
 -- a gate's line: its letter, its controls and its target
 unfoldable pub gateLine : Gate → List ℕ

@@ -1,15 +1,17 @@
 -- Laws of lent areas and lists. Assumes nothing.
 use Prim.Native.Nat.{ℕ, _+_, _<_, _≤_}
 use native.Mathlib.Omega.{arith}
-use native.Mathlib.Nat.{zero-add}
-use mathlib.Core.Path.{_≡_, sym, ap, _∙_}
+use native.Mathlib.Nat.{add-zero, zero-add}
+use native.Mathlib.Numerals.{add-one}
+use mathlib.Core.Path.{_≡_, refl, sym, ap, _∙_}
 use mathlib.Core.Logic.{_≢_}
 use mathlib.Core.List.{List, _++_, append-nil}
-use lib.ListN.{length, set, drop, replicate, length-replicate, getD-replicate, drop-of-length-le}
+use lib.ListN.{length, getD, set, drop, replicate, length-set, length-replicate, getD-replicate, drop-of-length-le}
 use lib.Seq.{sets, sets-eq}
 use borrow.Author.Tests.{ne-eqb}
 use Rattle.refusal.specs.Answers.{result, refused}
 use Rattle.wire.specs.Areas.{areaAfter}
+use Rattle.wire.proofs.ListLaws.{drop-next}
 use Rattle.wire.proofs.FillLaws.{Filled, filled-next, filled-all}
 
 -- bytes that are stored at the start of an area leave it as a result does
@@ -37,3 +39,29 @@ cleared-whole {list₀} p h =
     cleared-all (length list₀) p h
     ∙ ap (λ (l : List ℕ). replicate (length list₀) 0 ++ l) (drop-of-length-le list₀ {i = length list₀} (omega arith))
     ∙ append-nil (replicate (length list₀) 0)
+
+-- a loop has stored the first i of some bytes, the first at index at
+pub record StoredTo (bytes area₀ : List ℕ) (at : ℕ) (area : List ℕ) (i : ℕ) : Type 0 where
+  pub within : i ≤ length bytes
+  pub same : length area ≡ length area₀
+  pub left : sets area (at + i) (drop i bytes) ≡ sets area₀ at bytes
+
+module _ (bytes area₀ : List ℕ) (at : ℕ) where
+  pub stored-start : StoredTo bytes area₀ at area₀ 0
+  stored-start = record { within = omega arith; same = refl; left = ap (λ (k : ℕ). sets area₀ k bytes) (add-zero at) }
+
+  module _ {area : List ℕ} {i : ℕ} (p : StoredTo bytes area₀ at area i) where
+    pub stored-next : i < length bytes → StoredTo bytes area₀ at (set area (at + i) (getD bytes i 0)) (i + 1)
+    stored-next h =
+        let e : at + (i + 1) ≡ at + i + 1 = omega arith in
+        record {
+          within = omega arith;
+          same = length-set area (at + i) (getD bytes i 0) ∙ p .same;
+          left =
+              ap (λ (k : ℕ). sets (set area (at + i) (getD bytes i 0)) k (drop (i + 1) bytes)) (e ∙ add-one (at + i))
+              ∙ ap (sets area (at + i)) (sym (drop-next bytes i 0 h))
+              ∙ p .left;
+        }
+
+    pub stored-all : length bytes ≤ i → area ≡ sets area₀ at bytes
+    stored-all h = sym (ap (sets area (at + i)) (drop-of-length-le bytes h)) ∙ p .left

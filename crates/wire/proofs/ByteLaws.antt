@@ -1,11 +1,12 @@
 -- Laws of bytes and of the numbers that they make. Assumes nothing.
 use Prim.Native.Nat.{ℕ, _+_, _*_, _/_, _%_, _<_, _≤_}
 use native.Mathlib.Omega.{arith}
+use native.Mathlib.Numerals.{towards-suc}
 use native.Mathlib.Nat.{add-zero, div-div-eq-div-mul, mod-add-div}
 use mathlib.Core.Path.{_≡_, sym, ap, ap₂, _∙_}
 use mathlib.Core.List.{List, [], _∷_, _++_}
-use lib.ListN.{length, getD, take, drop, length-take, List·getD-eq-default}
-use lib.Seq.{getD-append-add, getD-take, getD-drop}
+use lib.ListN.{length, getD, take, drop, set, length-take, List·getD-eq-default}
+use lib.Seq.{sets, getD-append-add, getD-take, getD-drop}
 use lib.Dec.{ltb}
 use borrow.Author.Tests.{ltb-true, ltb-false}
 use Rattle.wire.specs.Bytes.{at16, at32, bytes16, bytes32, Bytes}
@@ -111,3 +112,10 @@ drop-fields s h k g =
     let four : k + 2 + 2 ≡ k + 4 = omega arith in
     let six : k + 4 + 2 ≡ k + 6 = omega arith in
     rw (drop-two s k (omega arith), drop16 s h (k + 2) (omega arith), four, drop16 s h (k + 4) (omega arith), six)
+
+-- their stores, one after the other, are one run
+pub fields-stored : (l : List ℕ) (at kind mark a b : ℕ) {l₁ l₂ : List ℕ}
+    → l₁ ≡ sets (set (set l at kind) (at + 1) mark) (at + 2) (bytes16 a)
+    → l₂ ≡ sets l₁ (at + 4) (bytes16 b)
+    → l₂ ≡ sets l at (kind ∷ mark ∷ (bytes16 a ++ bytes16 b))
+fields-stored l at kind mark a b e₁ e₂ = e₂ ∙ ap (λ (x : List ℕ). sets x (at + 4) (bytes16 b)) e₁ ∙ simp towards-suc

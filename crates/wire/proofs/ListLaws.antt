@@ -4,7 +4,7 @@ use native.Mathlib.Omega.{arith}
 use native.Mathlib.Nat.{add-zero, add-comm, mul-zero, mul-one, mul-suc, mul-add, mul-le-mul-left}
 use native.Mathlib.Numerals.{add-one}
 use mathlib.Core.Path.{_≡_, refl, sym, ap, ap₂, _∙_}
-use mathlib.Core.List.{List, [], _∷_, _++_, map, flatMap}
+use mathlib.Core.List.{List, [], _∷_, _++_, append-assoc, map, flatMap}
 use lib.ListN.{length, getD, take, drop, set, length-set, length-append, take-append-drop, drop-of-length-le, List·getD-append}
 use lib.Seq.{sets, getD-drop, drop-cons, drop-drop, take-suc, take-nil, take-at, take-append-add, drop-append-add, getD-set-same, getD-set-other}
 use Rattle.wire.specs.Lists.{tabulateFrom, tabulate}
@@ -53,6 +53,12 @@ map-at f (a ∷ l) (suc i) d e h = map-at f l i d e (omega arith)
 
 mul-suc-front : (w n : ℕ) → w * suc n ≡ w + w * n
 mul-suc-front w n = mul-suc w n ∙ add-comm (w * n) w
+
+-- what is made of two lists stands one behind the other
+pub flat-append : {A : Type 0} (f : A → List ℕ) (xs ys : List A) → flatMap f (xs ++ ys) ≡ flatMap f xs ++ flatMap f ys
+unfolding flatMap
+flat-append f [] ys = refl
+flat-append f (x ∷ xs) ys = ap (λ (l : List ℕ). f x ++ l) (flat-append f xs ys) ∙ sym (append-assoc (f x) (flatMap f xs) (flatMap f ys))
 
 -- entries of w numbers each, one behind the other: how many numbers, the first entries, and one of them
 module _ {A : Type 0} (w : ℕ) (f : A → List ℕ) (wide : (a : A) → length (f a) ≡ w) where

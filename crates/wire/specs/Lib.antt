@@ -1,4 +1,5 @@
 pub mod Areas
+pub mod Ascii
 pub mod Bits
 pub mod Bytes
 pub mod Limits

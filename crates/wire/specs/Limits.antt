@@ -31,3 +31,11 @@ mostCounted = 3000000
 -- the largest number that a quote (02, A1) shows as it is
 abbrev pub mostQuoted : ℕ
 mostQuoted = 1000000
+
+-- the most bytes of a text (02, A6)
+abbrev pub mostText : ℕ
+mostText = 4096
+
+-- the most brackets and ! that may be open in it together
+abbrev pub mostOpen : ℕ
+mostOpen = 64

@@ -1,8 +1,9 @@
 // Areas and lists that are lent for writing.
 ghost use mathlib.Core.Path.{_≡_};
 ghost use mathlib.Core.List.{_++_};
-ghost use Prim.Native.Nat.{_≤_};
+ghost use Prim.Native.Nat.{_+_, _≤_};
 ghost use lib.ListN.{length, drop, replicate};
+ghost use lib.Seq.{sets};
 
 // Stores zero in every byte.
 pub fn clear(area: &mut [u8])
@@ -24,5 +25,17 @@ pub fn clear_first(list: &mut [u64], count: usize)
     while at < count {
         list[at] = 0;
         at += 1;
+    }
+}
+
+// Stores bytes, the first at index at.
+pub fn store(area: &mut [u8], at: usize, bytes: &[u8])
+    requires { ⌜ at + length (now bytes) ≤ length (now area) ⌝ }
+    ensures { λ _. ⌜ now (area .exit) ≡ sets (now (area .entry)) at (now (bytes .entry)) ⌝ }
+{
+    let mut stored = 0;
+    while stored < bytes.len() {
+        area[at + stored] = bytes[stored];
+        stored += 1;
     }
 }

@@ -23,3 +23,9 @@ pub const MOST_COUNTED: usize = 3000000;
 
 // The largest number that a quote shows as it is.
 pub const MOST_QUOTED: u64 = 1000000;
+
+// The most bytes of a text.
+pub const MOST_TEXT: usize = 4096;
+
+// The most brackets and ! that may be open in a text together.
+pub const MOST_OPEN: usize = 64;

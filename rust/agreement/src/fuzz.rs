@@ -1,9 +1,10 @@
-//! Files of every kind against every service, as many as one likes.
+//! Formulas and files of every kind against every service, as many as one likes.
 
 use model::construct;
 
 use crate::compare::run::Direction::{self, Backwards, Forwards};
-use crate::compare::{compile, evaluate, quote, read, run, undo, words};
+use crate::compare::{compile, evaluate, parse, quote, read, run, undo, words};
+use crate::formula::{self, Formula};
 use crate::random::Random;
 use crate::tally::Tally;
 use crate::{circuit, damage, drawn, limits, program, shaped};
@@ -12,12 +13,13 @@ use crate::{circuit, damage, drawn, limits, program, shaped};
 pub struct Fuzz {
     shaped: Vec<Vec<u8>>,
     at_limits: Vec<Vec<u8>>,
-    tallies: [Tally; 9],
+    tallies: [Tally; 10],
 }
 
 impl Default for Fuzz {
     fn default() -> Fuzz {
         let services = [
+            "parse",
             "read_program",
             "evaluate",
             "evaluate_words",
@@ -38,9 +40,10 @@ impl Default for Fuzz {
 }
 
 impl Fuzz {
-    /// A random file: good, damaged, compiled, shaped, or shaped and damaged; of both formats.
+    /// A random file: good, damaged, parsed, compiled, shaped, or shaped and damaged; of both
+    /// formats.
     pub fn file(&self, random: &mut Random) -> Vec<u8> {
-        match random.below(18) {
+        match random.below(19) {
             0..=1 => program::valid(random).bytes(),
             2 => drawn::any(random).bytes(),
             3 => drawn::large(random).bytes(),
@@ -51,7 +54,8 @@ impl Fuzz {
             11..=12 => circuit::valid(random).bytes(),
             13..=14 => circuit::damaged(random),
             15 => compiled(random),
-            16 => self.shaped(random),
+            16 => parsed(random),
+            17 => self.shaped(random),
             _ => {
                 let file = self.shaped(random);
                 bytes_damaged(random, file)
@@ -65,13 +69,20 @@ impl Fuzz {
         files[random.below(files.len())].clone()
     }
 
-    /// Calls every service with this file, and fails where the two sides differ.
+    /// Calls parse with this formula, and fails where the two sides differ.
+    pub fn compare_formula(&mut self, random: &mut Random, formula: &Formula) {
+        let [parsed, ..] = &mut self.tallies;
+        parsed.count(&parse::compare(&parse::drawn(random, formula.clone())));
+    }
+
+    /// Calls every other service with this file, and fails where the two sides differ.
     pub fn compare(&mut self, random: &mut Random, file: &[u8]) {
         let run = |random: &mut Random, direction: Direction| {
             run::compare(direction, file, &run::drawn(random, file)).0
         };
+        let [_, others @ ..] = &mut self.tallies;
         let [program, evaluated, by_words, compiled, quoted, circuit, forwards, backwards, undone] =
-            &mut self.tallies;
+            others;
         program.count(&read::PROGRAM.compare(file));
         evaluated.count(&evaluate::compare(&evaluate::drawn(random, file.to_vec())));
         by_words.count(&words::compare(&words::drawn(random, file.to_vec())));
@@ -103,6 +114,15 @@ fn programs_at_limits() -> Vec<Vec<u8>> {
 fn compiled(random: &mut Random) -> Vec<u8> {
     let program = drawn::accepted(random);
     model::circuit::write(&construct::circuit(&drawn::read(&program)))
+}
+
+/// The program file of a random formula.
+fn parsed(random: &mut Random) -> Vec<u8> {
+    let Formula { text, inputs } = formula::valid(random);
+    let mut file = vec![0; oracle::LONGEST_PARSED];
+    let length = model::parse::parse(&text, inputs, &mut file);
+    file.truncate(length.expect("a formula that was drawn is in order"));
+    file
 }
 
 fn bytes_damaged(random: &mut Random, file: Vec<u8>) -> Vec<u8> {

@@ -1,11 +1,13 @@
-//! Holds `liboracle.a` against the model: each service on both sides, and the program and circuit
-//! files for that, written field by field, shaped at every limit of the formats and of compiling, or
-//! drawn at random, whole and damaged; and the cases of the listing program.
+//! Holds `liboracle.a` against the model: each service on both sides, and for that the program and
+//! circuit files, written field by field, shaped at every limit of the formats and of compiling, or
+//! drawn at random, whole and damaged, and formulas, by the grammar or damaged; and the cases of the
+//! listing program.
 
 pub mod circuit;
 pub mod compare;
 pub mod damage;
 pub mod drawn;
+pub mod formula;
 pub mod fuzz;
 pub mod layout;
 pub mod lent;
@@ -32,6 +34,13 @@ pub fn hex(bytes: &[u8]) -> String {
 /// Every byte as two hex digits behind a blank.
 pub fn digits(bytes: &[u8]) -> String {
     bytes.iter().map(|byte| format!(" {byte:02x}")).collect()
+}
+
+/// The first of a text's bytes for a message, those that are not to be printed escaped.
+pub fn escaped(text: &[u8]) -> String {
+    let shown = text.len().min(512);
+    let rest = if shown < text.len() { " .." } else { "" };
+    format!("{} bytes: {}{rest}", text.len(), text[..shown].escape_ascii())
 }
 
 /// The lowest bits of a number, a byte each, the lowest first.

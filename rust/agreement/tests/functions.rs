@@ -1,14 +1,16 @@
 //! The functions of `examples/functions`: each program file is that of its table, each listing that
-//! of its program file, and each computes on bits what its name says on numbers.
+//! of its program file, each formula has the circuit of its program file, and each function
+//! computes on bits what its name says on numbers.
 
 use agreement::compare::compile::written;
 use agreement::compare::run::after;
-use agreement::compare::{evaluate, MOST_NODES};
+use agreement::compare::{evaluate, parse, MOST_NODES};
 use agreement::listing_cases::GRANT;
 use agreement::random::Random;
 use agreement::{bits, repository};
 use model::listing::{listing, text};
-use oracle::QUESTIONS;
+use model::program::{Node, Program};
+use oracle::{LONGEST_PARSED, QUESTIONS};
 use table::functions::{adder, and, less, Form};
 
 /// A function: its name, the number of its inputs and outputs, and its outputs as the bits of a
@@ -76,10 +78,19 @@ fn inputs_to_try(random: &mut Random, count: usize) -> Vec<u64> {
     numbers
 }
 
+/// Whether a formula can say this function: it has one output and no marks.
+fn has_formula(function: &Function) -> bool {
+    let program = model::program::read(&file(function.name, "program"));
+    let Program { nodes, outputs, .. } = program.expect("a good program file");
+    outputs.len() == 1 && !nodes.iter().any(|node| matches!(node, Node::MarkedAnd(..)))
+}
+
 #[test]
 fn the_folder_holds_these_functions() {
     let files = |function: &Function| {
-        ["table", "program", "listing"].map(|extension| format!("{}.{extension}", function.name))
+        let formula = has_formula(function).then_some("formula");
+        let extensions = ["table", "program", "listing"].into_iter().chain(formula);
+        extensions.map(|extension| format!("{}.{extension}", function.name)).collect::<Vec<_>>()
     };
     assert_eq!(repository::names("examples/functions"), FUNCTIONS.iter().flat_map(files).collect());
 }
@@ -147,6 +158,29 @@ fn listings_are_those_of_the_program_files() {
         let circuit = model::circuit::read(&compiled(&program)).expect("it reads back");
         assert!(text(&circuit) == wanted, "{name}: the archive compiles it otherwise");
         println!("{name}: {}", wanted.lines().next().expect("a first line"));
+    }
+}
+
+/// A program file may use a node twice, where its formula has two alike. What is compiled is the
+/// same, as nodes are unfolded.
+#[test]
+fn formulas_compile_to_the_same_circuits() {
+    let mut random = Random::new(0x666f_726d);
+    let formulas: Vec<&Function> =
+        FUNCTIONS.iter().filter(|function| has_formula(function)).collect();
+    let names: Vec<&str> = formulas.iter().map(|function| function.name).collect();
+    assert_eq!(names, ["and", "nor", "majority", "less8", "and32"]);
+    for Function { name, inputs, value, .. } in formulas {
+        let formula = parse::Case::new(file(name, "formula"), *inputs as u64, LONGEST_PARSED);
+        assert!(parse::compare(&formula).is_ok(), "{name}: its formula is refused");
+        let parsed = parse::written(&formula.text, formula.inputs).expect("it is parsed");
+        let wanted = String::from_utf8(file(name, "listing")).expect("text");
+        assert!(compiled(&parsed) == compiled(&file(name, "program")), "{name}: another circuit");
+        assert!(listing(&parsed, GRANT) == wanted, "{name}: the formula is listed otherwise");
+        for number in inputs_to_try(&mut random, *inputs) {
+            let values = evaluate::outputs(&parsed, &bits(number, *inputs), 1);
+            assert_eq!(values, bits(value(number), 1), "{name} of {number:#x}");
+        }
     }
 }
 

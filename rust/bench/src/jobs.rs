@@ -4,15 +4,16 @@ use std::hint::black_box;
 
 use agreement::compare::{MOST_BYTES, MOST_NODES};
 use agreement::random::Random;
-use oracle::{ANSWER_ENTRY, COUNT_ENTRY};
+use oracle::{ANSWER_ENTRY, COUNT_ENTRY, LONGEST_PARSED};
 
 use crate::files::{self, INPUTS, LINES};
 use crate::idiomatic::Refused;
 use crate::sides::{self, Side, ARCHIVE, RUST};
+use crate::texts;
 
 use Service::{
-    Compile, Evaluate, EvaluateWords, Quote, ReadCircuit, ReadProgram, RunBackwards, RunForwards,
-    Undo,
+    Compile, Evaluate, EvaluateWords, Parse, Quote, ReadCircuit, ReadProgram, RunBackwards,
+    RunForwards, Undo,
 };
 
 /// How many files a job of the first table has.
@@ -49,6 +50,7 @@ pub struct Job {
 
 #[derive(Clone, Copy)]
 pub enum Service {
+    Parse,
     ReadProgram,
     Evaluate,
     EvaluateWords,
@@ -70,6 +72,7 @@ pub const BY_NODES: [Service; 4] = [ReadProgram, Evaluate, EvaluateWords, Quote]
 impl Service {
     pub fn name(self) -> &'static str {
         match self {
+            Parse => "parse",
             ReadProgram => "read_program",
             Evaluate => "evaluate",
             EvaluateWords => "evaluate_words",
@@ -85,7 +88,7 @@ impl Service {
     fn buffers(self) -> &'static str {
         match self {
             ReadProgram | ReadCircuit => NONE,
-            Evaluate | EvaluateWords | Compile | Undo => KEPT,
+            Parse | Evaluate | EvaluateWords | Compile | Undo => KEPT,
             Quote => COUNTS_CLEARED,
             RunForwards | RunBackwards => RESET,
         }
@@ -98,7 +101,7 @@ impl Service {
     /// Inputs, lines, or choices of about a third of the lines.
     fn bits(self, random: &mut Random) -> Vec<u8> {
         match self {
-            ReadProgram | EvaluateWords | Compile | Quote | ReadCircuit => vec![],
+            Parse | ReadProgram | EvaluateWords | Compile | Quote | ReadCircuit => vec![],
             Evaluate => random.bits(INPUTS),
             RunForwards | RunBackwards => random.bits(LINES),
             Undo => (0..LINES).map(|_| u8::from(random.once_in(3))).collect(),
@@ -113,17 +116,27 @@ impl Service {
         }
     }
 
+    /// How many bytes of the area are enough for every file that it writes.
+    fn room(self) -> usize {
+        match self {
+            Parse => LONGEST_PARSED,
+            _ => MOST_BYTES,
+        }
+    }
+
     /// What it is given with a file.
     fn given(self, random: &mut Random, file: Vec<u8>) -> Given {
-        Given { file, bits: self.bits(random), words: self.words(random) }
+        Given { file, bits: self.bits(random), words: self.words(random), room: self.room() }
     }
 }
 
-/// A file, and bits for its inputs, lines or choices, or words for its inputs.
+/// A file, or the text for parse; bits for its inputs, lines or choices, or words for its inputs;
+/// and how many bytes of the area are lent.
 struct Given {
     file: Vec<u8>,
     bits: Vec<u8>,
     words: Vec<u64>,
+    room: usize,
 }
 
 impl Job {
@@ -157,7 +170,12 @@ impl Job {
     /// Stops unless both sides answer alike on these files, and as the job says.
     pub fn check(&self, random: &mut Random) {
         for given in &self.files {
-            sides::agree_on(random, &given.file);
+            match self.service {
+                Parse => {
+                    sides::agree_on_text(random, &given.file);
+                }
+                _ => sides::agree_on(random, &given.file),
+            }
             for side in [&ARCHIVE, &RUST] {
                 let accepted = Areas::new().call(self.service, side, given);
                 assert_eq!(accepted, self.accepted, "{} {}", self.service.name(), self.name);
@@ -203,7 +221,9 @@ impl Areas {
     /// Calls a service, and says whether it gave a result.
     fn call(&mut self, service: Service, side: &Side, given: &Given) -> bool {
         let (file, bits) = (black_box(&given.file[..]), black_box(&given.bits[..]));
+        let area = black_box(&mut self.area[..given.room]);
         match service {
+            Parse => seen((side.parse)(file, INPUTS as u64, area)),
             ReadProgram => seen((side.read_program)(file)),
             Evaluate => seen((side.evaluate)(file, black_box(&mut self.values), bits, 0)),
             EvaluateWords => {
@@ -211,7 +231,7 @@ impl Areas {
                 seen((side.evaluate_words)(file, values, inputs, 0))
             }
             Compile => {
-                let (sizes, area) = (black_box(&mut self.sizes), black_box(&mut self.area));
+                let sizes = black_box(&mut self.sizes);
                 seen((side.compile)(file, MOST_WORK_LINES, sizes, area))
             }
             Quote => {
@@ -221,7 +241,7 @@ impl Areas {
             ReadCircuit => seen((side.read_circuit)(file)),
             RunForwards => seen((side.run_forwards)(file, self.reset(bits))),
             RunBackwards => seen((side.run_backwards)(file, self.reset(bits))),
-            Undo => seen((side.undo)(file, bits, black_box(&mut self.area))),
+            Undo => seen((side.undo)(file, bits, area)),
         }
     }
 
@@ -274,6 +294,31 @@ pub fn largest(random: &mut Random) -> Vec<Job> {
     ]
 }
 
+/// parse on texts as long as they can be.
+pub fn longest_texts(random: &mut Random) -> Vec<Job> {
+    let mut job =
+        |name, draw: fn(&mut Random) -> Vec<u8>| Job::new(random, Parse, name, FILES, draw);
+    let unfinished = job("4,096 bytes, refused 16 at the end", texts::unfinished);
+    let without_room = job("4,096 bytes, refused 11", texts::of_all_kinds);
+    vec![
+        job("4,096 bytes of all kinds", texts::of_all_kinds),
+        job("4,096 bytes, up to 64 open", texts::deep),
+        job("4,096 bytes, leaves and ^ and &", texts::without_brackets),
+        job("the same, constants, 4,095 nodes", texts::of_constants),
+        Job { accepted: false, ..unfinished },
+        one_byte_short(without_room),
+    ]
+}
+
+/// The same job with an area for each text that is one byte too short for its file.
+fn one_byte_short(mut job: Job) -> Job {
+    for given in &mut job.files {
+        let length = (RUST.parse)(&given.file, INPUTS as u64, &mut [0; LONGEST_PARSED]);
+        given.room = length.expect("a text of the language") - 1;
+    }
+    Job { buffers: CLEARED, accepted: false, ..job }
+}
+
 /// evaluate and evaluate_words on the same files.
 pub fn both_evaluations(random: &mut Random) -> [Job; 2] {
     let single = Job::new(random, Evaluate, OF_ALL_KINDS, FILES, files::of_all_kinds);
@@ -291,4 +336,10 @@ pub fn of_gates(random: &mut Random, service: Service, gates: usize) -> Job {
 pub fn of_nodes(random: &mut Random, service: Service, nodes: usize) -> Job {
     let draw = |random: &mut Random| files::of_nodes(random, nodes);
     Job::new(random, service, "by nodes", 65_536 / nodes, draw)
+}
+
+/// parse on texts of so many bytes of all kinds, as many as make 131,072 bytes.
+pub fn of_bytes(random: &mut Random, bytes: usize) -> Job {
+    let draw = |random: &mut Random| texts::of_bytes(random, bytes);
+    Job::new(random, Parse, "by bytes", 131_072 / bytes, draw)
 }

@@ -1,8 +1,8 @@
 //! Times the services beside the same jobs in idiomatic Rust, in one run, says what 64 questions in
-//! one call cost, shows how the time grows with the gates and with the nodes, and finds the stack that
-//! compile takes: `cargo run --offline --release -p bench`.
+//! one call cost, shows how the time grows with the gates, the nodes and the bytes of a text, and
+//! finds the stack that compile and parse take: `cargo run --offline --release -p bench`.
 //!
-//! Every job has many files, drawn at random and called in turn: on one file over and over, the
+//! Every job has many files or texts, drawn at random and called in turn: on one over and over, the
 //! processor would learn by heart which way each branch goes, and a call would look faster than it
 //! is. Both sides have to give the same answers on each of them before any is timed.
 
@@ -16,18 +16,20 @@ mod idiomatic;
 mod jobs;
 mod sides;
 mod stack;
+mod texts;
 
 use jobs::{Job, Round, BY_GATES, BY_NODES, FILES};
 use sides::{ARCHIVE, RUST};
 
-/// The numbers of gates of the second table, and of nodes of the third.
+/// The numbers of gates of the second table, of nodes of the third, and of bytes of the fourth.
 const GATES: [usize; 4] = [1000, 2000, 4000, 8000];
 const NODES: [usize; 4] = [512, 1024, 2048, 4096];
+const BYTES: [usize; 4] = [512, 1024, 2048, 4096];
 
 fn main() {
     stack::try_if_asked();
     let mut random = Random::new(0x6265_6e63);
-    sides::agree(&mut random, 4000);
+    sides::agree(&mut random, 4000, 20_000);
     if cfg!(debug_assertions) {
         println!("Without --release the Rust side is not optimised, and the ratio says nothing.");
     }
@@ -35,24 +37,26 @@ fn main() {
     questions_for_one(&mut random);
     growth_by_gates(&mut random);
     growth_by_nodes(&mut random);
+    growth_by_bytes(&mut random);
     stack::print();
 }
 
-/// Every service on large files, beside Rust.
+/// Every service on large files or texts, beside Rust.
 fn ratios(random: &mut Random) {
     println!(
         "
-Each row has {FILES} files of one size, drawn at random. A round is a call with each of them in
-turn, and the two sides take rounds in turn. The time of a call is that of the median round,
-divided by its calls; the ratio is that of liboracle.a to Rust. What else the machine does moves
-the times more than the ratio.
+Each row has {FILES} files or texts of one size, drawn at random. A round is a call with each of
+them in turn, and the two sides take rounds in turn. The time of a call is that of the median
+round, divided by its calls; the ratio is that of liboracle.a to Rust. What else the machine does
+moves the times more than the ratio.
 "
     );
     println!(
         "{:<14} {:<38} {:>12} {:>11} {:>6}  buffers",
         "service", "job", "liboracle.a", "Rust", "ratio"
     );
-    for job in jobs::largest(random) {
+    let texts = jobs::longest_texts(random);
+    for job in texts.into_iter().chain(jobs::largest(random)) {
         job.check(random);
         let (archive, rust) = in_turn(&job, job.on(&ARCHIVE), job.on(&RUST));
         let ratio = archive.as_secs_f64() / rust.as_secs_f64();
@@ -113,11 +117,24 @@ before a call.
     }
 }
 
+/// How it grows with the bytes of a text.
+fn growth_by_bytes(random: &mut Random) {
+    println!(
+        "
+Time of a call of liboracle.a, and of that a byte, by the bytes of the text. A round goes over
+texts of all kinds that have 131,072 bytes together. The area is not cleared before a call.
+"
+    );
+    print_heading(BYTES.map(|bytes| format!("{bytes} bytes")));
+    let jobs = BYTES.map(|bytes| (jobs::of_bytes(random, bytes), bytes));
+    print_times(random, "parse", jobs);
+}
+
 fn print_heading(columns: [String; 4]) {
     println!("{:<14} {}", "service", columns.map(|column| format!("{column:>21}")).concat());
 }
 
-/// A row: the time of a call of each job, and of that one of its gates or nodes.
+/// A row: the time of a call of each job, and of that one of its gates, nodes or bytes.
 fn print_times(random: &mut Random, service: &str, jobs: [(Job, usize); 4]) {
     let columns = jobs.map(|(job, count)| {
         job.check(random);

@@ -1,14 +1,17 @@
 //! The two sides, and that they do the same job.
 
+use std::collections::BTreeMap;
 use std::fmt::Debug;
 
 use agreement::compare::{compile, evaluate, quote, run, undo, words};
 use agreement::fuzz::Fuzz;
 use agreement::random::Random;
-use oracle::{CircuitHead, ProgramHead};
+use oracle::{CircuitHead, ProgramHead, LONGEST_PARSED};
 
 use crate::idiomatic::{self, Refused};
+use crate::texts;
 
+type Parse = fn(&[u8], u64, &mut [u8]) -> Result<usize, Refused>;
 type ReadProgram = fn(&[u8]) -> Result<ProgramHead, Refused>;
 type Evaluate = fn(&[u8], &mut [u8], &[u8], u64) -> Result<bool, Refused>;
 type EvaluateWords = fn(&[u8], &mut [u64], &[u64], u64) -> Result<u64, Refused>;
@@ -20,6 +23,7 @@ type Undo = fn(&[u8], &[u8], &mut [u8]) -> Result<usize, Refused>;
 
 /// The services of one side.
 pub struct Side {
+    pub parse: Parse,
     pub read_program: ReadProgram,
     pub evaluate: Evaluate,
     pub evaluate_words: EvaluateWords,
@@ -33,6 +37,7 @@ pub struct Side {
 
 /// The archive, through its wrapper.
 pub const ARCHIVE: Side = Side {
+    parse: |text, inputs, area| oracle::parse(text, inputs, area).map_err(numbers),
     read_program: |file| oracle::read_program(file).map_err(numbers),
     evaluate: |file, values, inputs, output| {
         oracle::evaluate(file, values, inputs, output).map_err(numbers)
@@ -50,6 +55,7 @@ pub const ARCHIVE: Side = Side {
 
 /// Idiomatic Rust.
 pub const RUST: Side = Side {
+    parse: idiomatic::formula::parse,
     read_program: idiomatic::program::read_program,
     evaluate: idiomatic::program::evaluate,
     evaluate_words: idiomatic::program::evaluate_words,
@@ -65,15 +71,24 @@ fn numbers(refusal: oracle::Refusal) -> Refused {
     (refusal.number, refusal.place)
 }
 
-/// Stops unless both sides answer alike on random files, refusals and areas included: otherwise
-/// they would not do the same job.
-pub fn agree(random: &mut Random, files: usize) {
+/// Stops unless both sides answer alike on random files and texts, refusals and areas included:
+/// otherwise they would not do the same job.
+pub fn agree(random: &mut Random, files: usize, texts: usize) {
     let fuzz = Fuzz::default();
     for _ in 0..files {
         let file = fuzz.file(random);
         agree_on(random, &file);
     }
-    println!("Both sides answer alike on {files} files, each given to all nine services.");
+    println!(
+        "Both sides answer alike on {files} files, each given to the nine services for files."
+    );
+
+    let mut answers = BTreeMap::new();
+    for _ in 0..texts {
+        let text = texts::any(random);
+        *answers.entry(agree_on_text(random, &text)).or_insert(0) += 1;
+    }
+    println!("So they do on {texts} texts given to parse: results (0) and refusals {answers:?}.");
 }
 
 /// The same for one file.
@@ -113,6 +128,25 @@ pub fn agree_on(random: &mut Random, file: &[u8]) {
         let mut area = undone.area.clone();
         ((side.undo)(file, &undone.choices, &mut area), area)
     });
+}
+
+/// The same for one text, and gives the number of the refusal, or 0.
+pub fn agree_on_text(random: &mut Random, text: &[u8]) -> u64 {
+    let inputs = match random.below(20) {
+        0 => random.pick(&[65, u64::MAX]),
+        1..=4 => random.below(64) as u64,
+        _ => 64,
+    };
+    let needed = (RUST.parse)(text, inputs, &mut [0; LONGEST_PARSED]).unwrap_or(100);
+    let shorter = random.below(needed);
+    let length = random.pick(&[needed, needed + 1, LONGEST_PARSED, needed - 1, shorter]);
+    let area = random.bytes(length);
+    let answer = |side: &Side| {
+        let mut area = area.clone();
+        ((side.parse)(text, inputs, &mut area), area)
+    };
+    same(text, "parse", answer);
+    answer(&RUST).0.err().map_or(0, |(number, _)| number)
 }
 
 fn same<T: PartialEq + Debug>(file: &[u8], service: &str, answer: impl Fn(&Side) -> T) {

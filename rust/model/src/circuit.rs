@@ -1,6 +1,7 @@
 //! Reading a circuit file, causes 1 to 4 and 12, and writing one.
 
-use crate::{contents, u16_at, Refusal};
+use crate::contents::{self, put_entry};
+use crate::{put_u16, u16_at, Refusal};
 
 const HEAD_LENGTH: usize = 6;
 const GATE_LENGTH: usize = 8;
@@ -143,16 +144,6 @@ pub fn write(circuit: &Circuit) -> Vec<u8> {
         put_u16(&mut file, target);
     }
     file
-}
-
-fn put_entry(file: &mut Vec<u8>, tag: usize, start: usize, length: usize) {
-    put_u16(file, tag);
-    file.extend((start as u32).to_le_bytes());
-    file.extend((length as u32).to_le_bytes());
-}
-
-fn put_u16(file: &mut Vec<u8>, number: usize) {
-    file.extend((number as u16).to_le_bytes());
 }
 
 #[cfg(test)]

@@ -1,6 +1,6 @@
 //! The table of contents that opens a file: causes 1 and 2.
 
-use crate::{u16_at, u32_at, Refusal};
+use crate::{put_u16, u16_at, u32_at, Refusal};
 
 /// Cuts a file into its bodies, one for each tag.
 pub(crate) fn bodies<const N: usize>(file: &[u8], tags: [u16; N]) -> Result<[&[u8]; N], Refusal> {
@@ -39,4 +39,11 @@ pub(crate) fn bodies<const N: usize>(file: &[u8], tags: [u16; N]) -> Result<[&[u
 
     // The ranges follow one another up to the end of the file, so each lies within it.
     Ok(ranges.map(|(start, end)| &file[start as usize..end as usize]))
+}
+
+/// Writes an entry.
+pub(crate) fn put_entry(file: &mut Vec<u8>, tag: usize, start: usize, length: usize) {
+    put_u16(file, tag);
+    file.extend((start as u32).to_le_bytes());
+    file.extend((length as u32).to_le_bytes());
 }

@@ -1,5 +1,6 @@
 //! A second reading of documents 01 and 02, in plain Rust and without the compiler's code: the
-//! services are held against it. Each check stands in the order of the table of causes.
+//! services are held against it. Each check stands in the order of the table of causes, except that
+//! undo has 11 last and parse an order of its own.
 
 pub mod circuit;
 pub mod compile;
@@ -8,6 +9,7 @@ mod contents;
 pub mod evaluate;
 pub mod listing;
 mod natural;
+pub mod parse;
 pub mod program;
 pub mod quote;
 pub mod run;
@@ -40,4 +42,8 @@ fn u16_at(bytes: &[u8], at: usize) -> u16 {
 
 fn u32_at(bytes: &[u8], at: usize) -> u32 {
     u32::from(u16_at(bytes, at)) | u32::from(u16_at(bytes, at + 2)) << 16
+}
+
+fn put_u16(file: &mut Vec<u8>, number: usize) {
+    file.extend((number as u16).to_le_bytes());
 }

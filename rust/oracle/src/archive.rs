@@ -35,6 +35,14 @@ mod c {
     use super::{Answer, Head};
 
     extern "C" {
+        pub fn oracle_parse(
+            text: *const u8,
+            text_len: usize,
+            inputs: u64,
+            area: *mut u8,
+            area_len: usize,
+        ) -> Answer;
+
         pub fn oracle_read_program(file: *const u8, file_len: usize) -> Head;
 
         pub fn oracle_evaluate(
@@ -106,6 +114,11 @@ mod c {
 // SAFETY, for every call below: each pointer and length come from one slice that is borrowed until
 // the call returns, so they name valid memory, writable where the slice is `&mut`, and no writable
 // area overlaps another. The archive accepts any content and any length, and keeps no pointer.
+
+pub fn parse(text: &[u8], inputs: u64, area: &mut [u8]) -> Answer {
+    // SAFETY: see above.
+    unsafe { c::oracle_parse(text.as_ptr(), text.len(), inputs, area.as_mut_ptr(), area.len()) }
+}
 
 pub fn read_program(file: &[u8]) -> Head {
     // SAFETY: see above.
@@ -237,6 +250,31 @@ mod tests {
     /// A reader's refusal, which has no number of the file.
     fn refused(number: u64, place: u64) -> Head {
         Head { number, value: place, inputs: 0, outputs: 0, work: 0 }
+    }
+
+    #[test]
+    fn the_answer_to_a_text_is_the_number_of_bytes_written() {
+        let mut area = [7; 58];
+        assert_eq!(parse(b"x0&x1", 2, &mut area), answer(0, 56));
+        assert_eq!((&area[..56], &area[56..]), (&AND[..], &[7; 2][..]));
+        let mut area = [7; 70];
+        assert_eq!(parse(b"!x0&!x1", 2, &mut area), answer(0, 68));
+        // The nodes of NOR in the order in which their texts end.
+        assert_eq!(area[36..48], [2, 0, 0, 0, 0, 0, 3, 0, 0, 0, 0, 0]);
+        assert_eq!(area[48..60], [2, 0, 1, 0, 0, 0, 3, 0, 2, 0, 0, 0]);
+        assert_eq!(area[60..], [5, 0, 1, 0, 3, 0, 4, 0, 7, 7]);
+
+        let mut area = [7; 56];
+        assert_eq!(parse(b"x0&x1", 1, &mut area), answer(5, 1));
+        assert_eq!(parse(b"x0&x1", 65, &mut area), answer(4, 0));
+        assert_eq!(parse(b"x0& x1", 2, &mut area), answer(16, 3));
+        assert_eq!(parse(&[b'0'; 4097], 65, &mut area), answer(17, 0));
+        assert_eq!(parse(&[b'!'; 66], 2, &mut area), answer(18, 64));
+        assert_eq!(area, [7; 56]);
+        assert_eq!(parse(b"x0&x1", 2, &mut area[..55]), answer(11, 3));
+        assert_eq!((&area[..55], area[55]), (&[0; 55][..], 7));
+        assert_eq!(parse(b"", 2, &mut []), answer(16, 0));
+        assert_eq!(parse(b"0", 0, &mut []), answer(11, 1));
     }
 
     // The wrapper drops the numbers of a refusal and the work lines of a program, so only here can

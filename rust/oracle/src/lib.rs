@@ -14,11 +14,12 @@ use archive::Answer;
 /// Why a service gave no result.
 #[derive(Debug, Clone, Copy, PartialEq, Eq)]
 pub struct Refusal {
-    /// The cause, as numbered in document 01.
+    /// The cause, as numbered in documents 01 and 02.
     pub number: u64,
-    /// Where the cause lies: the index of the lowest bad node (5), output (6, 8) or gate (12), the
-    /// number of work lines (10) or of gates needed (11; 3,000,001 stands for every number over
-    /// 3,000,000), otherwise 0.
+    /// Where the cause lies: the index of the lowest bad node (5), output (6, 8) or gate (12), or of
+    /// a byte of a text (16, where it may be the text's length, and 18), the number of work lines
+    /// (10) or of gates needed (11; 3,000,001 stands for every number over 3,000,000; of [`parse`] the
+    /// nodes needed), otherwise 0.
     pub place: u64,
 }
 
@@ -91,6 +92,35 @@ pub struct Quote {
 /// A number of a quote, or none where it only says that there are more than [`LARGEST_EXACT`].
 pub fn exact(number: u64) -> Option<u64> {
     (number <= LARGEST_EXACT).then_some(number)
+}
+
+/// The length of the longest program file that [`parse`] writes, of 4,096 nodes. An area as long as
+/// this is always enough.
+pub const LONGEST_PARSED: usize = 24_614;
+
+/// Parses a formula over so many inputs, writes its program file, and gives its length.
+///
+/// A text of the language is a sum. A sum is products joined by `^`, a product is factors joined by
+/// `&`, and a factor is `!` and a factor, a sum in brackets, `0`, `1`, or `x` and the number of an
+/// input. A number has one digit, or two not starting with 0, and there are no blanks. Operators
+/// group to the left. The file has one output, no mark, and a node for each `^`, `&`, `!`, `0`, `1`
+/// and input of the text, none of them shared, each made when its text ends.
+///
+/// - `text` is only read; at most 4,096 bytes.
+/// - `inputs` is the number of inputs that the program has, at most 64.
+/// - `area` needs 38 bytes, and 6 for each node: [`LONGEST_PARSED`] bytes are always enough. On a
+///   result the file is at its start, and the bytes past it are as they were. On refusal 11 all of
+///   it is zero, on any other it is as it was.
+///
+/// Refusals, in this order: 17, `text` is too long; 4, `inputs` is over 64; then, byte by byte, the
+/// first of 16, the text is outside the language, the place being the length of its longest prefix
+/// that some text of the language begins with, 18, a byte opens one more than 64 brackets and `!`
+/// together (a bracket is open up to its `)`, a `!` until its factor ends), the place being that
+/// byte, and 5, an input's number is not below `inputs`, the place being the index of its node; and
+/// last, 11, `area` is too short, the place being the number of nodes.
+pub fn parse(text: &[u8], inputs: u64, area: &mut [u8]) -> Result<usize, Refusal> {
+    let length = result(archive::parse(text, inputs, area))?;
+    Ok(length as usize)
 }
 
 /// Reads and checks a program file and gives its numbers.

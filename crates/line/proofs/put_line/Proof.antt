@@ -1,6 +1,7 @@
 use mathlib.Core.List.{_++_, flatMap}
 use borrow.Author.Needs.{needs}
-use Rattle.line.specs.Lines.{ascii, field, line}
+use Rattle.wire.specs.Ascii.{ascii}
+use Rattle.line.specs.Lines.{field, line}
 use Rattle.line.proofs.PutLaws.{put-then, fits-first, fits-second}
 use Rattle.line.proofs.put_line.Statement.{statement}
 use Rattle.line.proofs.put_line.Tie as tie

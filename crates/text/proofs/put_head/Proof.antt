@@ -1,8 +1,9 @@
 use Prim.Native.Nat.{ℕ}
 use mathlib.Core.List.{List, [], _∷_, _++_, flatMap}
 use borrow.Author.Needs.{needs}
+use Rattle.wire.specs.Ascii.{ascii}
 use Rattle.circuit.specs.declared.reader.CircuitHead.{CircuitHead}
-use Rattle.line.specs.Lines.{ascii, field, line}
+use Rattle.line.specs.Lines.{field, line}
 use Rattle.text.specs.Listings.{firstLine}
 use Rattle.line.proofs.PutLaws.{put-then, fits-first, fits-second}
 use Rattle.text.proofs.put_head.Statement.{statement}

@@ -3,6 +3,7 @@
 
 pub mod compile;
 pub mod evaluate;
+pub mod parse;
 pub mod quote;
 pub mod read;
 pub mod run;
@@ -22,10 +23,10 @@ pub const NO_GATES: usize = 28;
 /// The length of the longest circuit file, of 8,000 gates.
 pub const MOST_BYTES: usize = 64_028;
 
-/// The outcome of a call of the archive on a file, which the call may only read.
+/// The outcome of a call of the archive on a file or a text, which the call may only read.
 fn archive<T, A>(file: &[u8], call: impl FnOnce(&[u8]) -> (Answer<T>, A)) -> (Outcome<T>, A) {
     let ((answer, areas), after) = lent(file, |file| call(file));
-    assert!(after == file, "the file was written");
+    assert!(after == file, "the file or the text was written");
     (answer.map_err(|refusal| (refusal.number, refusal.place)), areas)
 }
 
@@ -36,7 +37,7 @@ fn model<T>(answer: Result<T, model::Refusal>) -> Outcome<T> {
     answer.map_err(|refusal| (refusal.number, refusal.place))
 }
 
-/// What 01 says of the area of a call that writes a circuit file: what stood behind the file stays,
+/// What 01 and 02 say of the area of a call that writes a file: what stood behind the file stays,
 /// a refusal with 11 leaves zeros, and any other what there was.
 fn area_is_left(
     outcome: Outcome<usize>,

@@ -5,6 +5,7 @@
 
 pub mod circuit;
 pub mod compile;
+pub mod formula;
 pub mod program;
 pub mod quote;
 

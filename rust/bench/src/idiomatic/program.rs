@@ -4,8 +4,8 @@ use oracle::ProgramHead;
 
 use super::{bodies, u16_at, Refused};
 
-const NODE_LENGTH: usize = 6;
-const MOST_NODES: usize = 4096;
+pub const NODE_LENGTH: usize = 6;
+pub const MOST_NODES: usize = 4096;
 
 #[derive(Clone, Copy)]
 pub enum Node {
@@ -25,7 +25,7 @@ pub struct Program<'a> {
 }
 
 /// The bytes of a node.
-type Record = [u8; NODE_LENGTH];
+pub type Record = [u8; NODE_LENGTH];
 
 impl<'a> Program<'a> {
     pub fn node(&self, index: u16) -> Node {

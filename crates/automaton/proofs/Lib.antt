@@ -1,0 +1,13 @@
+pub mod AnswerCases
+pub mod AnswerLaws
+pub mod BoundLaws
+pub mod FollowLaws
+pub mod Following
+pub mod NodeLaws
+pub mod NumberLaws
+pub mod OutcomeLaws
+pub mod ReadingLaws
+pub mod SoFar
+pub mod Steps
+pub mod TextLaws
+pub mod ViableLaws

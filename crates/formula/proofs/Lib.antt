@@ -1,0 +1,3 @@
+pub mod DeliveryLaws
+pub mod ParseLaws
+pub mod WholeLaws

@@ -1,0 +1,4 @@
+pub mod CaseLaws
+pub mod CountLaws
+pub mod OrderLaws
+pub mod ValueLaws

@@ -1,0 +1,2 @@
+pub mod OrderCases
+pub mod TypedLaws

@@ -1,0 +1,3 @@
+pub mod DigitLaws
+pub mod LeafLaws
+pub mod PlaceLaws
