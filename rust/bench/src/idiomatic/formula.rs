@@ -25,7 +25,7 @@ pub fn parse(text: &[u8], inputs: u64, area: &mut [u8]) -> Result<usize, Refused
     }
 
     // A text may be refused at its last byte, with the area as it was, so the nodes are made beside
-    // it: to read the text twice instead takes 1.6 to 1.9 times as long. An array of bytes is
+    // it: to read the text twice instead took 1.6 to 1.9 times as long. An array of bytes is
     // cleared at once, one of records one after the other.
     let mut bytes = [0; NODE_LENGTH * MOST_NODES];
     let (nodes, _) = bytes.as_chunks_mut();
