@@ -1,4 +1,6 @@
 // What the exported functions answer: plain numbers for each answer of a service.
+#![tactic(auto)]
+
 ghost use Rattle.std.specs.Prelude.{◌≡◌, ◌≤◌};
 ghost use Rattle.wire.specs.Limits.{most_gates};
 ghost use Rattle.refusal.specs.Answers.{result, refuse, map_answer};

@@ -1,4 +1,6 @@
 // The service compile: a program file's circuit, written into a lent area.
+#![tactic(auto)]
+
 ghost use Rattle.std.specs.Prelude.{◌≡◌, length};
 ghost use Rattle.refusal.specs.Answers.{map_answer};
 ghost use Rattle.circuit.specs.Circuits.{head_of};

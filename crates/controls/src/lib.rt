@@ -1,4 +1,6 @@
 // The operands of an AND: an input is its own control, and any other node is built on a work line.
+#![tactic(auto)]
+
 ghost use Rattle.std.specs.Prelude.{◌≡◌, ◌<◌};
 ghost use Rattle.construction.specs.Construction.{input_of};
 ghost use Rattle.pool.specs.LinePools.{line_numbers};

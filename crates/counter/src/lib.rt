@@ -1,6 +1,8 @@
 // How far counting the construction has come, in one number: the gates, the most work lines in use
 // together, and the lines in use; and what each step of the construction adds to it. A struct of three
 // would come back through memory at every call.
+#![tactic(auto)]
+
 ghost use Rattle.std.specs.Prelude.{◌≡◌, ◌+◌, ◌*◌, ◌≤◌, ◌<◌, max};
 ghost use Rattle.wire.specs.Limits.{most_size};
 ghost use Rattle.construction.specs.Counting.{gates_shown};

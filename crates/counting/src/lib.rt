@@ -1,4 +1,6 @@
 // How many gates and work lines the construction takes, counted before anything is written.
+#![tactic(auto)]
+
 ghost use Rattle.node.specs.Exprs.{size};
 ghost use Rattle.program.specs.Tables.{tree_in, trees_in};
 ghost use Rattle.counting.specs.Counters.{Countable, CountRoom, Counted, AllCountable, Needed};

@@ -1,6 +1,8 @@
 // Reading by recursive descent: the readers of sums, products and factors call each other. At each
 // call the bytes that remain get fewer, or the level of the grammar falls; and at each ! and bracket
 // one fewer may be open.
+#![tactic(auto)]
+
 ghost use Rattle.std.specs.Prelude.{length};
 ghost use Rattle.descent.specs.Readers.{Readable, ReadableNext, SumRead, ProductRead, FactorRead, NextProduct, NextFactor};
 

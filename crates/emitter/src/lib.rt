@@ -1,4 +1,6 @@
 // The nodes of what was read, stored in a node body.
+#![tactic(auto)]
+
 ghost use Rattle.std.specs.Prelude.{◌≡◌, ◌≤◌, length};
 ghost use Rattle.wire.specs.Limits.{most_text};
 ghost use Rattle.emitter.specs.Emitting.{put_fields, Storable, Joinable, LeafStorable, follows_by, LeafStored, Joined, Negated, closed};

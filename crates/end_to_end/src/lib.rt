@@ -1,5 +1,7 @@
 // Compiling a program file, reading the circuit back and running it, on lent areas: demand 3,
 // carried by running code.
+#![tactic(auto)]
+
 ghost use Rattle.std.specs.Prelude.{◌≡◌};
 ghost use Rattle.run.specs.RunCircuit.{lines_after, ran, done};
 ghost use Rattle.compilation.specs.Compiling.{compile_of};

@@ -1,5 +1,7 @@
 // Compiles document 01's AND of three inputs and runs its circuit, from the program file to the
 // lines at the end. For each start it writes the lines before, the answer and the lines after.
+#![tactic(auto)]
+
 use end_to_end::compile_and_run;
 use run::Ran;
 

@@ -1,5 +1,7 @@
 // The count list: an entry of eight numbers for each node of a table, front to back, each from those
 // before it.
+#![tactic(auto)]
+
 ghost use Rattle.std.specs.Prelude.{◌≡◌, ◌++◌, ℕ, ◌+◌, ◌*◌, ◌/◌, ◌≤◌, length, drop};
 ghost use Rattle.std.proofs.lemmas.List.Edits.{sets};
 ghost use Rattle.node.specs.Nodes.{nodes_in};

@@ -1,5 +1,7 @@
 // An entry of the count list: the numbers of a node's tree, made of those of its operands. Each count
 // is shown as 1,000,001 where it is above 1,000,000.
+#![tactic(auto)]
+
 ghost use Rattle.std.specs.Prelude.{◌≡◌, cond, ◌+◌, ◌*◌, ◌≤◌, max};
 ghost use Rattle.wire.specs.Limits.{most_quoted};
 ghost use Rattle.wire.specs.Shown.{shown};

@@ -1,4 +1,6 @@
 // The service evaluate: an output's value on given input bits, and every node's value with it.
+#![tactic(auto)]
+
 mod values;
 
 ghost use Rattle.std.specs.Prelude.{◌≡◌};

@@ -1,4 +1,6 @@
 // The service parse: a formula as members type it, read and written as a program file.
+#![tactic(auto)]
+
 ghost use Rattle.std.specs.Prelude.{◌≡◌, length};
 ghost use Rattle.refusal.specs.Answers.{map_answer};
 ghost use Rattle.wire.specs.Areas.{area_after};

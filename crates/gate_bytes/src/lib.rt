@@ -1,3 +1,5 @@
 // The eight bytes of a gate in a circuit file, read and stored.
+#![tactic(auto)]
+
 pub mod reader;
 pub mod writer;

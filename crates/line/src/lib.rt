@@ -1,5 +1,7 @@
 // A line of text put into a lent buffer: a word and numbers, and that of a refusal. Each function
 // answers where its text ends.
+#![tactic(auto)]
+
 ghost use mathlib.Core.List.{flat_map};
 ghost use Rattle.refusal.specs.Answers.{number_of, place_of};
 ghost use Rattle.line.specs.Lines.{field, line, refused_line};

@@ -1,4 +1,6 @@
 // The listing of a program file's circuit as text.
+#![tactic(auto)]
+
 ghost use Rattle.std.specs.Prelude.{◌≡◌, List, ◌++◌, ℕ, length, drop};
 ghost use Rattle.list.specs.Listing.{listing_of};
 ghost use Rattle.line.specs.Putting.{Put};

@@ -1,4 +1,5 @@
 // Lists the circuit of the program file on standard input.
+#![tactic(auto)]
 
 // How many work lines are granted.
 const GRANT: u64 = 1024;

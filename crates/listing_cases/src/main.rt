@@ -1,5 +1,6 @@
 // Lists the circuit of each program file that its arguments name: the files of data/, in the order of
 // the file args.
+#![tactic(auto)]
 
 // Lists one program file.
 fn list_file(path: &[u8]) {

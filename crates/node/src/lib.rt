@@ -1,3 +1,5 @@
 // Nodes: their six bytes in a program file, and what a node means.
+#![tactic(auto)]
+
 pub mod kinds;
 pub mod nodes;

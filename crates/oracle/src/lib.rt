@@ -1,5 +1,7 @@
 // What loaders link: one exported C function for each service, with the service's parameters in
 // their order. A slice is a pointer and then a length.
+#![tactic(auto)]
+
 ghost use Rattle.std.specs.Prelude.{◌≡◌, length};
 ghost use Rattle.refusal.specs.Answers.{map_answer};
 ghost use Rattle.circuit.specs.Format.{circuit_file, file_length};

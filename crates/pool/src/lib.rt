@@ -1,4 +1,6 @@
 // The pool of work lines, as the code has it: every line from the lowest free one on is free.
+#![tactic(auto)]
+
 ghost use Rattle.std.specs.Prelude.{◌≤◌, ◌<◌};
 ghost use Rattle.pool.specs.LinePools.{line_numbers, Takes, Releases};
 

@@ -1,4 +1,6 @@
 // Writing the program file of one output around its nodes.
+#![tactic(auto)]
+
 ghost use Rattle.std.specs.Prelude.{◌≤◌, ◌≡◌, length};
 ghost use Rattle.std.proofs.lemmas.List.Edits.{sets};
 ghost use Rattle.program_writer.specs.OneOutput.{FewNodes, body_file, body_file_length};

@@ -1,5 +1,7 @@
 // How far writing a circuit has come, the next gate that is written into its area, and what cleans up
 // behind a marked AND.
+#![tactic(auto)]
+
 ghost use Rattle.std.specs.Prelude.{◌≡◌, ◌+◌, ◌%◌, ◌≤◌, ◌<◌, length};
 ghost use Rattle.wire.specs.Limits.{most_gates};
 ghost use Rattle.circuit.specs.Format.{file_length};

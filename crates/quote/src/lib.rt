@@ -1,4 +1,6 @@
 // The service quote: the gates, Toffolis and work lines of each output's share; nothing is built.
+#![tactic(auto)]
+
 mod answers;
 
 ghost use Rattle.std.specs.Prelude.{◌≡◌};

@@ -1,4 +1,6 @@
 // Running a circuit file on lines: the services run_forwards and run_backwards.
+#![tactic(auto)]
+
 pub mod steps;
 
 ghost use Rattle.std.specs.Prelude.{◌≡◌};

@@ -2,6 +2,8 @@
 //
 // A text is handed on by the address of its slice, here and by the readers above: otherwise each call
 // would copy its pointer and its length, which made reading a fifth slower.
+#![tactic(auto)]
+
 ghost use Rattle.std.specs.Prelude.{◌≡◌, get_or};
 ghost use Rattle.scanner.specs.Scanning.{Scannable, digit_at, NumberRead, LeafRead};
 

@@ -1,5 +1,7 @@
 // The circuit of a program: its head, and the shares of the outputs in their order, each of them an
 // output's gates and their undoing.
+#![tactic(auto)]
+
 ghost use Rattle.std.specs.Prelude.{◌≡◌};
 ghost use Rattle.std.proofs.lemmas.List.Edits.{sets};
 ghost use Rattle.circuit.specs.Circuits.{InRange};

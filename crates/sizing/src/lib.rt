@@ -1,4 +1,6 @@
 // The unfolded sizes of the nodes of a table, front to back, each from those before it.
+#![tactic(auto)]
+
 ghost use Rattle.std.specs.Prelude.{◌≡◌, [], ◌∷◌, ◌++◌, ℕ, ◌+◌, ◌/◌, ◌<◌, ◌≤◌, length, get_or, drop};
 ghost use Rattle.refusal.specs.Checks.{lowest};
 ghost use Rattle.node.specs.Nodes.{nodes_in, NodeOk};

@@ -1,4 +1,6 @@
 // The lines of a listing, put into a lent buffer. Each function answers where its text ends.
+#![tactic(auto)]
+
 ghost use Rattle.circuit.specs.Circuits.{gates_in};
 ghost use Rattle.text.specs.Listings.{gate_line, gate_lines, first_line};
 ghost use Rattle.line.specs.Putting.{Put, TextFits};

@@ -1,4 +1,6 @@
 // The service undo: the gates of a circuit file, reversed, without those whose target is chosen.
+#![tactic(auto)]
+
 ghost use Rattle.std.specs.Prelude.{◌≡◌, ◌∷◌, [], ◌+◌, ◌*◌, ◌<◌, ◌≤◌, length};
 ghost use Rattle.refusal.specs.Answers.{map_answer};
 ghost use Rattle.gate.specs.Gates.{target, Fits};

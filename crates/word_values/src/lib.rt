@@ -1,5 +1,7 @@
 // The values of a table's nodes on 64 questions at once, a word for each node, front to back, each
 // from those before it by one operation on whole words.
+#![tactic(auto)]
+
 ghost use Rattle.std.specs.Prelude.{◌≡◌, [], ◌∷◌, ◌++◌, ◌/◌, length, drop};
 ghost use Rattle.node.specs.Nodes.{nodes_in, NodeOk};
 ghost use Rattle.node.specs.Steps.{Fillable, NextOf};

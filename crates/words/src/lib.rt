@@ -1,5 +1,7 @@
 // The service evaluate_words: an output's values on 64 questions at once. Bit k of every word
 // belongs to question k.
+#![tactic(auto)]
+
 ghost use Rattle.std.specs.Prelude.{◌≡◌};
 ghost use Rattle.words.specs.EvaluatingWords.{evaluate_words_of, word_evaluated};
 

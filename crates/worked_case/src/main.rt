@@ -1,4 +1,6 @@
 // Writes the circuit file of document 01's worked case, the AND of four inputs, to standard output.
+#![tactic(auto)]
+
 use circuit::reader::CircuitHead;
 use counting::count_shares;
 use shares::write_circuit;
