@@ -30,7 +30,7 @@ use words::WordEvaluated;
 
 // Number 0 and the value of a result, or the number and the place of a refusal.
 #[repr(C)]
-#[derive(Drop)]
+#[derive(Clone, Copy)]
 pub struct OracleAnswer {
     pub number: u64,
     pub value: u64,
@@ -39,7 +39,7 @@ pub struct OracleAnswer {
 // What a reader answers: the same, and the file's numbers of inputs, outputs and work lines. All
 // three are 0 for a refusal, and a program has no work lines.
 #[repr(C)]
-#[derive(Drop)]
+#[derive(Clone, Copy)]
 pub struct OracleHead {
     pub number: u64,
     pub value: u64,

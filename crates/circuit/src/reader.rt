@@ -21,7 +21,7 @@ use wire::limits::{MOST_GATES, MOST_WORK};
 use wire::numbers::get16;
 
 // How many inputs, outputs, work lines and gates a circuit has.
-#[derive(Drop)]
+#[derive(Clone, Copy)]
 pub struct CircuitHead {
     pub inputs: usize,
     pub outputs: usize,
@@ -30,7 +30,7 @@ pub struct CircuitHead {
 }
 
 // What reading a circuit file gives.
-#[derive(Drop)]
+#[derive(Clone, Copy)]
 pub enum CircuitRead {
     Good(CircuitHead),
     Refused(Refusal),

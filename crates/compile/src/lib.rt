@@ -24,7 +24,7 @@ use wire::areas::clear;
 use wire::limits::MOST_WORK;
 
 // What compiling answers: the numbers of the circuit written.
-#[derive(Drop)]
+#[derive(Clone, Copy)]
 pub enum Compiled {
     Written(CircuitHead),
     Refused(Refusal),

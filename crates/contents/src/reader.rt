@@ -7,7 +7,7 @@ use refusal::causes::Refusal;
 use wire::numbers::{get16, get32};
 
 // What the checks of a table of contents give.
-#[derive(Drop)]
+#[derive(Clone, Copy)]
 pub enum ContentsRead {
     Good,
     Refused(Refusal),

@@ -12,7 +12,7 @@ use pool::LINE_NUMBERS;
 use program::reader::output_at;
 
 // A circuit's numbers: its gates, as shown, and the most work lines that any output takes.
-#[derive(Drop)]
+#[derive(Clone, Copy)]
 pub struct Needs {
     pub gates: usize,
     pub lines: usize,

@@ -11,7 +11,7 @@ use scanner::{Leaf, byte_at};
 use wire::numbers::put16;
 
 // Where what was read ends and how many nodes are made by then, or the refusal.
-#[derive(Drop)]
+#[derive(Clone, Copy)]
 pub enum Read {
     End(usize, usize),
     Bad(Refusal),

@@ -15,7 +15,7 @@ use wire::limits::MOST_QUOTED;
 // The gates that build a tree, or the Toffolis among them, and how many of these a share undoes:
 // those that are not on the tree's own line. Both grow with the operands' numbers, so that sums of
 // shown numbers show the sum; a share has as many as both together.
-#[derive(Drop)]
+#[derive(Clone, Copy)]
 pub struct Tally {
     pub built: u64,
     pub undone: u64,
@@ -25,7 +25,7 @@ pub struct Tally {
 // when it is built, and the most that it holds together, which is more where a marked AND freed some.
 // input is 1 more than the number of the input that the tree is, and 0 where it is none: an AND has to
 // know that of its operands.
-#[derive(Drop)]
+#[derive(Clone, Copy)]
 pub struct Entry {
     pub gates: Tally,
     pub toffolis: Tally,
@@ -36,7 +36,7 @@ pub struct Entry {
 
 // What an operand adds to its AND: the gates that make it, the Toffolis among them, the lines that it
 // still holds when it is made, and the most that it holds together.
-#[derive(Drop)]
+#[derive(Clone, Copy)]
 struct OperandCounts {
     gates: u64,
     toffolis: u64,

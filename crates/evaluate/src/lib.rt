@@ -12,7 +12,7 @@ use refusal::causes::Refusal;
 use wire::bits::bits_fit;
 
 // What evaluating an output answers.
-#[derive(Drop)]
+#[derive(Clone, Copy)]
 pub enum Evaluated {
     Value(u8),
     Refused(Refusal),

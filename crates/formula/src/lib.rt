@@ -18,7 +18,7 @@ use wire::areas::clear;
 use wire::limits::{MOST_INPUTS, MOST_OPEN, MOST_TEXT};
 
 // What parsing answers: how many bytes the file written has.
-#[derive(Drop)]
+#[derive(Clone, Copy)]
 pub enum Parsed {
     Written(usize),
     Refused(Refusal),

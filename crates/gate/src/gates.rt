@@ -5,7 +5,7 @@ ghost use Rattle.gate.specs.Gates.{target, well_formed};
 use refusal::checks::both;
 
 // A gate with its lines.
-#[derive(Drop)]
+#[derive(Clone, Copy)]
 pub enum Gate {
     Not {
         target: u16,

@@ -9,7 +9,7 @@ use refusal::checks::both;
 use wire::numbers::get16;
 
 // What reading a gate finds: the gate, or the index of a gate that is not in order.
-#[derive(Drop)]
+#[derive(Clone, Copy)]
 pub enum GateRead {
     Good(Gate),
     Bad(usize),

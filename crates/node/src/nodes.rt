@@ -8,7 +8,7 @@ use wire::numbers::get16;
 
 // A node with the number of its input or the indices of its operands; an AND says first whether it is
 // marked.
-#[derive(Drop)]
+#[derive(Clone, Copy)]
 pub enum Node {
     Zero,
     One,
@@ -19,7 +19,7 @@ pub enum Node {
 }
 
 // What reading a node finds: the node, or the index of a node that is not in order.
-#[derive(Drop)]
+#[derive(Clone, Copy)]
 pub enum NodeRead {
     Good(Node),
     Bad(usize),

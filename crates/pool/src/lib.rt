@@ -8,7 +8,7 @@ ghost use Rattle.pool.specs.LinePools.{line_numbers, Takes, Releases};
 pub const LINE_NUMBERS: usize = 65536;
 
 // The lowest free line. The work lines before it are in use.
-#[derive(Drop)]
+#[derive(Clone, Copy)]
 pub struct LinePool {
     pub free: usize,
 }

@@ -17,7 +17,7 @@ use wire::limits::MOST_NODES;
 use wire::numbers::get16;
 
 // How many inputs, outputs and nodes a program has.
-#[derive(Drop)]
+#[derive(Clone, Copy)]
 pub struct Head {
     pub inputs: usize,
     pub outputs: usize,
@@ -25,7 +25,7 @@ pub struct Head {
 }
 
 // What reading a program file gives.
-#[derive(Drop)]
+#[derive(Clone, Copy)]
 pub enum ProgramRead {
     Good(Head),
     Refused(Refusal),

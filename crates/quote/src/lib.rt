@@ -14,7 +14,7 @@ use refusal::causes::Refusal;
 use wire::areas::clear_first;
 
 // What quoting answers: the number of outputs quoted.
-#[derive(Drop)]
+#[derive(Clone, Copy)]
 pub enum Quoted {
     Outputs(u64),
     Refused(Refusal),

@@ -11,7 +11,7 @@ use circuit::reader::{CircuitRead, gate_body, read_with_lines};
 use refusal::causes::Refusal;
 
 // What running a circuit answers.
-#[derive(Drop)]
+#[derive(Clone, Copy)]
 pub enum Ran {
     Done,
     Refused(Refusal),

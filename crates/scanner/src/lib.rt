@@ -11,7 +11,7 @@ use node::kinds::INPUT;
 use refusal::causes::Refusal;
 
 // What a leaf is: the kind of its node, the node's first field, and where its text ends; or the refusal.
-#[derive(Drop)]
+#[derive(Clone, Copy)]
 pub enum Leaf {
     Good(u8, usize, usize),
     Bad(Refusal),

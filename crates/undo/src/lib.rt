@@ -21,7 +21,7 @@ use refusal::causes::Refusal;
 use wire::areas::clear;
 
 // What undoing a circuit answers: the numbers of the circuit written.
-#[derive(Drop)]
+#[derive(Clone, Copy)]
 pub enum Undone {
     Written(CircuitHead),
     Refused(Refusal),

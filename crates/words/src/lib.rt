@@ -10,7 +10,7 @@ use refusal::causes::Refusal;
 use word_values::fill_words;
 
 // What evaluating an output on 64 questions answers.
-#[derive(Drop)]
+#[derive(Clone, Copy)]
 pub enum WordEvaluated {
     Word(u64),
     Refused(Refusal),
