@@ -1,12 +1,12 @@
 -- Laws of circuits that are the same but for the order of controls. Assumes nothing.
-use mathlib.Core.Path.{◌≡◌, refl, ap, ap₂, ◌∙◌}
+use mathlib.Core.Path.{◌≡◌, refl, ap, sym, subst, ap₂, ◌∙◌}
 use mathlib.Core.List.{List}
 use Rattle.refusal.specs.Answers.{result}
 use Rattle.gate.specs.declared.gates.Gate.{Gate}
 use Rattle.gate.specs.Gates.{WellFormed, All}
 use Rattle.gate.proofs.ControlOrderLaws.{FormedAs, formed_as, same_gates}
 use Rattle.circuit.specs.declared.reader.CircuitHead.{CircuitHead}
-use Rattle.circuit.specs.Circuits.{Circuit, head_of, line_count, Legal, SameButOrder}
+use Rattle.circuit.specs.Circuits.{Circuit, head_of, head_lines, line_count, Legal, SameButOrder}
 use Rattle.circuit.specs.Theorems.{OneOrder, NoneLost}
 use Rattle.circuit.proofs.FileLaws.{only_writing, same_bytes}
 
@@ -21,7 +21,7 @@ none_lost c numbers fits =
 -- two legal circuits that are the same but for it are the same
 legal_same : (c d : Circuit) → Legal c → Legal d → SameButOrder c d → c ≡ d
 legal_same c d lc ld same =
-    let formed : All (WellFormed (line_count c)) d.gates = rw same.numbers ld.formed in
+    let formed : All (WellFormed (line_count c)) d.gates = subst (λ (h : CircuitHead). All (WellFormed (head_lines h)) d.gates) (sym same.numbers) ld.formed in
     ap₂ circuit same.numbers (same_gates (line_count c) c.gates d.gates lc.formed formed same.gates)
   where
     circuit : CircuitHead → List Gate → Circuit

@@ -1,0 +1,21 @@
+use native.Mathlib.Omega.{arith}
+use Prim.Native.Nat.{◌-◌}
+use mathlib.Core.Path.{sym, ◌∙◌}
+use Rattle.refusal.proofs.CheckLaws.{passed_start, passed_next, passed_fails, passed_all}
+use Rattle.node.proofs.NodeLaws.{read_good, read_bad, read_index}
+use Rattle.program.proofs.reader.read_nodes.Goals as goal
+
+pub loop-i-init : goal.loop-i-init
+loop-i-init c = passed_start _ _
+
+pub returns-in-Bad : goal.returns-in-Bad
+returns-in-Bad c =
+    let e = c.read_node-node.ensures in
+    let g = c.in-Bad.is in
+    read_index _ _ _ e g ∙ sym (passed_fails _ c.loop-i.invariant c.loop-i-test.true (read_bad _ _ _ e g))
+
+pub loop-i-preserved : goal.loop-i-preserved
+loop-i-preserved c = passed_next _ c.loop-i.invariant c.loop-i-test.true (read_good _ _ _ c.read_node-node.ensures c.in_default.is)
+
+pub returns : goal.returns
+returns c = omega (arith, passed_all _ c.loop-i.invariant c.loop-i-test.false, c.loop-i.invariant.within)
