@@ -1,4 +1,3 @@
 pub mod CopyLaws
-pub mod HeldLaws
 pub mod ReverseLaws
 pub mod StoredLaws

@@ -7,7 +7,7 @@ use areas::writer::write_gate;
 use gate::gates::Gate;
 
 // The lent circuit area, and how many gates are stored in it.
-#[derive(Clone, Copy)]
+#[derive(Drop)]
 pub struct GateWriter<'a> {
     pub area: &'a mut [u8],
     pub count: usize,

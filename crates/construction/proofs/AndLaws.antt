@@ -18,12 +18,9 @@ use Rattle.gate.specs.Gates.{target, Controls, WellFormed, All}
 use Rattle.gate.specs.Running.{addend}
 use Rattle.gate.proofs.AllLaws.{all_reverse}
 use Rattle.gate.proofs.WellFormedLaws.{cnot_formed, toffoli_formed}
-use denote.Enum.Declared.{tag_of}
-use types.Run.{OneOf, miss}
 use Rattle.node.specs.declared.nodes.Node.{Node}
 use Rattle.node.specs.declared.nodes.Node.TheVariants.{Zero, One, Input, Not, Xor, And}
 use Rattle.node.specs.Trees.{tree_of}
-use Rattle.node.specs.contracts.nodes.Node.{the_type}
 use Rattle.node.specs.Exprs.{Expr, ZERO, ONE, INPUT, NOT, XOR, AND, InputsBelow}
 use Rattle.construction.specs.Construction.{input_of, and_gate, cleaning}
 use Rattle.construction.specs.Steps.{same_input}
@@ -44,11 +41,11 @@ pub input_below : (n : ℕ) (a : Expr) → InputsBelow n a → (j : ℕ) → inp
 input_below n a w j e = rw (is_input a j e) at w
 
 -- and a node of another kind is no input
-pub no_input : (ts : List Expr) (node : Node) → OneOf (0 ∷ 1 ∷ 3 ∷ 4 ∷ 5 ∷ []) (tag_of the_type node) → input_of (tree_of ts node) ≡ none
+pub no_input : (ts : List Expr) (node : Node) → ((j : ℕ) → node ≡ Input j → ⊥) → input_of (tree_of ts node) ≡ none
 unfolding input_of tree_of
 no_input ts Zero h = refl
 no_input ts One h = refl
-no_input ts (Input j) h = absurd (miss (0 ∷ 1 ∷ 3 ∷ 4 ∷ 5 ∷ []) 2 tt h)
+no_input ts (Input j) h = absurd (h j refl)
 no_input ts (Not a) h = refl
 no_input ts (Xor a b) h = refl
 no_input ts (And m a b) h = refl

@@ -13,7 +13,7 @@ use scanner::{byte_at, read_leaf};
 
 // Products joined by ^, over so many inputs, from an index on, where left may still be opened and so
 // many nodes are made.
-#[cycle(factor_next_factor_next_product_product_sum)]
+#[cycle(readers)]
 pub fn sum(
     text: &&[u8],
     inputs: usize,
@@ -33,7 +33,7 @@ pub fn sum(
 }
 
 // The product behind a ^, and the node that joins it to what was read so far.
-#[cycle(factor_next_factor_next_product_product_sum)]
+#[cycle(readers)]
 fn next_product(text: &&[u8], inputs: usize, left: usize, so: Read, nodes: &mut [u8]) -> Read
     requires { ReadableNext inputs text.now.now so (length nodes.old) }
     ensures { NextProduct inputs text.now.now left so nodes.old nodes.new result }
@@ -46,7 +46,7 @@ fn next_product(text: &&[u8], inputs: usize, left: usize, so: Read, nodes: &mut 
 }
 
 // Factors joined by &.
-#[cycle(factor_next_factor_next_product_product_sum)]
+#[cycle(readers)]
 fn product(
     text: &&[u8],
     inputs: usize,
@@ -66,7 +66,7 @@ fn product(
 }
 
 // The factor behind an &, and the node that joins it to what was read so far.
-#[cycle(factor_next_factor_next_product_product_sum)]
+#[cycle(readers)]
 fn next_factor(text: &&[u8], inputs: usize, left: usize, so: Read, nodes: &mut [u8]) -> Read
     requires { ReadableNext inputs text.now.now so (length nodes.old) }
     ensures { NextFactor inputs text.now.now left so nodes.old nodes.new result }
@@ -79,7 +79,7 @@ fn next_factor(text: &&[u8], inputs: usize, left: usize, so: Read, nodes: &mut [
 }
 
 // ! and a factor, a sum in brackets, or a leaf.
-#[cycle(factor_next_factor_next_product_product_sum)]
+#[cycle(readers)]
 fn factor(
     text: &&[u8],
     inputs: usize,
