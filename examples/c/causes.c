@@ -3,6 +3,16 @@
 
 #include "check.h"
 
+/* Prints why a service refused, with the place if the cause has one. */
+static void say_refusal(oracle_answer answer)
+{
+    printf("refused %llu: %s", (unsigned long long)answer.number,
+           oracle_cause_text(answer.number));
+    if (*oracle_place_text(answer.number) != '\0')
+        printf("; %s %llu", oracle_place_text(answer.number), (unsigned long long)answer.value);
+    printf("\n");
+}
+
 int main(void)
 {
     printf("version %s\n", ORACLE_VERSION);

@@ -9,24 +9,14 @@
 
 static bool all_as_expected = true;
 
-/* Prints why a service refused, with the place if the cause has one. */
-static void say_refusal(oracle_answer answer)
-{
-    printf("refused %llu: %s", (unsigned long long)answer.number,
-           oracle_cause_text(answer.number));
-    if (*oracle_place_text(answer.number) != '\0')
-        printf("; %s %llu", oracle_place_text(answer.number), (unsigned long long)answer.value);
-    printf("\n");
-}
-
 /* Prints an answer, which is to be this number and value. */
 static void show(const char *what, oracle_answer answer, uint64_t number, uint64_t value)
 {
-    printf("%s: ", what);
     if (answer.number == 0)
-        printf("%llu\n", (unsigned long long)answer.value);
+        printf("%s: %llu\n", what, (unsigned long long)answer.value);
     else
-        say_refusal(answer);
+        printf("%s: refused %llu %llu\n", what, (unsigned long long)answer.number,
+               (unsigned long long)answer.value);
     if (answer.number != number || answer.value != value)
         all_as_expected = false;
 }

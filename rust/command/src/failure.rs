@@ -21,7 +21,7 @@ pub enum Failure {
 
 impl From<Refusal> for Failure {
     fn from(refusal: Refusal) -> Failure {
-        Failure::Refused(refusal.to_string())
+        Failure::Refused(refusal.in_words().to_string())
     }
 }
 

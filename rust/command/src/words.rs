@@ -13,7 +13,7 @@ const SHOWN: usize = 30;
 
 /// The refusal, and what to do about it.
 fn advised(refusal: Refusal, advice: &str) -> Failure {
-    Failure::Refused(format!("{refusal}; {advice}"))
+    Failure::Refused(format!("{}; {advice}", refusal.in_words()))
 }
 
 /// A file that is no program file.
@@ -55,7 +55,7 @@ pub fn formula(refusal: Refusal, text: &[u8], at: usize, named: u64) -> Failure 
         "" => String::new(),
         _ => format!("\n{}", with_caret(text, at)),
     };
-    Failure::Refused(format!("{refusal}{advice}{caret}"))
+    Failure::Refused(format!("{}{advice}{caret}", refusal.in_words()))
 }
 
 /// The text around a byte, and a caret below it. Each byte that cannot be shown is a `?`.
@@ -86,7 +86,7 @@ pub fn compiling(refusal: Refusal, grant: u64) -> Failure {
         cause::GRANT => advised(refusal, &format!("try --grant {MOST_WORK_LINES}")),
         cause::WORK_LINES => Failure::Refused(too_few_lines(refusal.place, grant)),
         cause::ROOM => Failure::Refused(too_many_gates(refusal.place)),
-        _ => Failure::Refused(refusal.to_string()),
+        _ => refusal.into(),
     }
 }
 

@@ -39,7 +39,7 @@ fn main() -> Result<(), Refusal> {
     println!("backwards {lines:?}");
 
     if let Err(refusal) = oracle::compile(program, 0, &mut sizes, &mut area) {
-        println!("{refusal}");
+        println!("{}", refusal.in_words());
     }
     Ok(())
 }

@@ -44,6 +44,12 @@ impl Refusal {
         self.cause().0
     }
 
+    /// The refusal as it is printed for a reader: its number, its cause in words, and its place if the
+    /// cause has one.
+    pub fn in_words(self) -> InWords {
+        InWords(self)
+    }
+
     fn cause(&self) -> (&'static str, &'static str) {
         let index = self.number.checked_sub(1).and_then(|index| usize::try_from(index).ok());
         index.and_then(|index| cause::WORDS.get(index)).copied().unwrap_or_default()
@@ -52,15 +58,26 @@ impl Refusal {
 
 impl fmt::Display for Refusal {
     fn fmt(&self, f: &mut fmt::Formatter<'_>) -> fmt::Result {
-        write!(f, "refused {}: {}", self.number, self.text())?;
-        match self.place_text() {
-            "" => Ok(()),
-            place => write!(f, "; {place} {}", self.place),
-        }
+        write!(f, "refused {} {}", self.number, self.place)
     }
 }
 
 impl Error for Refusal {}
+
+/// A refusal that is printed in words: [`Refusal::in_words`].
+#[derive(Debug, Clone, Copy, PartialEq, Eq)]
+pub struct InWords(Refusal);
+
+impl fmt::Display for InWords {
+    fn fmt(&self, f: &mut fmt::Formatter<'_>) -> fmt::Result {
+        let InWords(refusal) = self;
+        write!(f, "refused {}: {}", refusal.number, refusal.text())?;
+        match refusal.place_text() {
+            "" => Ok(()),
+            place => write!(f, "; {place} {}", refusal.place),
+        }
+    }
+}
 
 /// How many inputs, outputs and nodes a program file has.
 #[derive(Debug, Clone, Copy, PartialEq, Eq)]
@@ -346,7 +363,7 @@ mod tests {
 
     #[test]
     fn a_refusal_says_its_cause_in_words() {
-        let said = |number, place| Refusal { number, place }.to_string();
+        let said = |number, place| Refusal { number, place }.in_words().to_string();
         assert_eq!((cause::WORDS.len(), cause::TABLE, cause::GATE, cause::DEPTH), (18, 1, 12, 18));
         assert_eq!(said(9, 0), "refused 9: the grant is over 1,024");
         let node =
@@ -364,6 +381,12 @@ mod tests {
         for number in 1..=18 {
             assert!(!Refusal { number, place: 0 }.text().is_empty(), "{number}");
         }
+    }
+
+    #[test]
+    fn a_refusal_is_its_two_numbers() {
+        assert_eq!(Refusal { number: 10, place: 16 }.to_string(), "refused 10 16");
+        assert_eq!(Refusal { number: 9, place: 0 }.to_string(), "refused 9 0");
     }
 
     #[test]
