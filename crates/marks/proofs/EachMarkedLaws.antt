@@ -33,13 +33,17 @@ of_operand P before (XOR a b) t p h = h refl
 of_operand P before (AND m a b) t p h = h refl
 
 -- what holds of every marked AND holds where it follows
+each_marked_of : (P Q : List Gate → Expr → Expr → ℕ → Pool → Type 0) → ((before : List Gate) (a b : Expr) (t : ℕ) (p : Pool) → P before a b t p → Q before a b t p)
+    → (e : Expr) (before : List Gate) (t : ℕ) (p : Pool) → EachMarked P before e t p → EachMarked Q before e t p
+each_marked_of P Q f ZERO before t p h = tt
+each_marked_of P Q f ONE before t p h = tt
+each_marked_of P Q f (INPUT j) before t p h = tt
+each_marked_of P Q f (NOT a) before t p h = each_marked_of P Q f a _ t p h
+each_marked_of P Q f (XOR a b) before t p h =
+    (each_marked_of P Q f a _ t _ h.0, each_marked_of P Q f b _ t _ h.1)
+each_marked_of P Q f (AND m a b) before t p h =
+    (λ e. f before a b t p (h.0 e), each_marked_of P Q f a _ _ _ h.1, each_marked_of P Q f b _ _ _ h.2)
+
 pub each_marked : (P Q : List Gate → Expr → Expr → ℕ → Pool → Type 0) → ((before : List Gate) (a b : Expr) (t : ℕ) (p : Pool) → P before a b t p → Q before a b t p)
     → (before : List Gate) (e : Expr) (t : ℕ) (p : Pool) → EachMarked P before e t p → EachMarked Q before e t p
-each_marked P Q f before ZERO t p h = tt
-each_marked P Q f before ONE t p h = tt
-each_marked P Q f before (INPUT j) t p h = tt
-each_marked P Q f before (NOT a) t p h = each_marked P Q f _ a t p h
-each_marked P Q f before (XOR a b) t p h =
-    (each_marked P Q f _ a t _ h.0, each_marked P Q f _ b t _ h.1)
-each_marked P Q f before (AND m a b) t p h =
-    (λ e. f before a b t p (h.0 e), each_marked P Q f _ a _ _ h.1, each_marked P Q f _ b _ _ h.2)
+each_marked P Q f before e t p h = each_marked_of P Q f e before t p h
