@@ -3,7 +3,7 @@
 
 ghost use Rattle.std.specs.Prelude.{◌≡◌, ◌≤◌};
 ghost use Rattle.wire.specs.Limits.{most_gates};
-ghost use Rattle.refusal.specs.Answers.{result, refuse, map_answer};
+ghost use Rattle.refusal.specs.Answers.{result as given, refuse, map_answer};
 ghost use Rattle.program.specs.Reading.{program_read};
 ghost use Rattle.evaluate.specs.Evaluating.{evaluated};
 ghost use Rattle.words.specs.EvaluatingWords.{word_evaluated};
@@ -50,7 +50,7 @@ pub struct OracleHead {
 
 // A refusal as its number and place.
 fn refusal(why: Refusal) -> OracleAnswer
-    ensures* { λ r. ⌜ r ≡ exported (refuse why) ⌝ }
+    ensures { result ≡ exported (refuse why) }
 {
     OracleAnswer {
         number: why.number(),
@@ -60,7 +60,7 @@ fn refusal(why: Refusal) -> OracleAnswer
 
 // A reader's refusal as its number and place, and no number of the file.
 fn refused_head(why: Refusal) -> OracleHead
-    ensures* { λ r. ⌜ r ≡ exported_head (refuse why) ⌝ }
+    ensures { result ≡ exported_head (refuse why) }
 {
     let answer = refusal(why);
     OracleHead {
@@ -74,7 +74,7 @@ fn refused_head(why: Refusal) -> OracleHead
 
 // What parsing a formula answers; the value of a result is the number of bytes written.
 pub fn parse_answer(answer: Parsed) -> OracleAnswer
-    ensures* { λ r. ⌜ r ≡ exported (parsed answer) ⌝ }
+    ensures { result ≡ exported (parsed answer) }
 {
     match answer {
         Parsed::Written(bytes) => OracleAnswer {
@@ -87,7 +87,7 @@ pub fn parse_answer(answer: Parsed) -> OracleAnswer
 
 // What reading a program file answers; the value of a result is the number of nodes.
 pub fn program_answer(answer: ProgramRead) -> OracleHead
-    ensures* { λ r. ⌜ r ≡ exported_head (map_answer program_numbers (program_read answer)) ⌝ }
+    ensures { result ≡ exported_head (map_answer program_numbers (program_read answer)) }
 {
     match answer {
         ProgramRead::Good(program) => OracleHead {
@@ -103,7 +103,7 @@ pub fn program_answer(answer: ProgramRead) -> OracleHead
 
 // What reading a circuit file answers; the value of a result is the number of gates.
 pub fn circuit_answer(answer: CircuitRead) -> OracleHead
-    ensures* { λ r. ⌜ r ≡ exported_head (map_answer circuit_numbers (circuit_read answer)) ⌝ }
+    ensures { result ≡ exported_head (map_answer circuit_numbers (circuit_read answer)) }
 {
     match answer {
         CircuitRead::Good(circuit) => OracleHead {
@@ -119,7 +119,7 @@ pub fn circuit_answer(answer: CircuitRead) -> OracleHead
 
 // What evaluating answers; the value of a result is the output's bit.
 pub fn evaluate_answer(answer: Evaluated) -> OracleAnswer
-    ensures* { λ r. ⌜ r ≡ exported (evaluated answer) ⌝ }
+    ensures { result ≡ exported (evaluated answer) }
 {
     match answer {
         Evaluated::Value(bit) => OracleAnswer {
@@ -132,7 +132,7 @@ pub fn evaluate_answer(answer: Evaluated) -> OracleAnswer
 
 // What evaluating on 64 questions answers; the value of a result is the output's word.
 pub fn words_answer(answer: WordEvaluated) -> OracleAnswer
-    ensures* { λ r. ⌜ r ≡ exported (word_evaluated answer) ⌝ }
+    ensures { result ≡ exported (word_evaluated answer) }
 {
     match answer {
         WordEvaluated::Word(word) => OracleAnswer {
@@ -145,7 +145,7 @@ pub fn words_answer(answer: WordEvaluated) -> OracleAnswer
 
 // What quoting answers; the value of a result is the number of outputs.
 pub fn quote_answer(answer: Quoted) -> OracleAnswer
-    ensures* { λ r. ⌜ r ≡ exported (quoted answer) ⌝ }
+    ensures { result ≡ exported (quoted answer) }
 {
     match answer {
         Quoted::Outputs(outputs) => OracleAnswer {
@@ -158,7 +158,7 @@ pub fn quote_answer(answer: Quoted) -> OracleAnswer
 
 // What a run answers; the value of a result is 0.
 pub fn run_answer(answer: Ran) -> OracleAnswer
-    ensures* { λ r. ⌜ r ≡ exported (ran answer) ⌝ }
+    ensures { result ≡ exported (ran answer) }
 {
     match answer {
         Ran::Done => OracleAnswer {
@@ -172,7 +172,7 @@ pub fn run_answer(answer: Ran) -> OracleAnswer
 // The number of bytes of a circuit file that was written.
 fn written(head: CircuitHead) -> OracleAnswer
     requires { head.gates ≤ most_gates }
-    ensures* { λ r. ⌜ r ≡ exported (result (file_bytes head)) ⌝ }
+    ensures { result ≡ exported (given (file_bytes head)) }
 {
     OracleAnswer {
         number: 0,
@@ -183,7 +183,7 @@ fn written(head: CircuitHead) -> OracleAnswer
 // What undoing answers; the value of a result is the number of bytes written.
 pub fn undo_answer(answer: Undone) -> OracleAnswer
     requires { FewGates (undone answer) }
-    ensures* { λ r. ⌜ r ≡ exported (map_answer file_bytes (undone answer)) ⌝ }
+    ensures { result ≡ exported (map_answer file_bytes (undone answer)) }
 {
     match answer {
         Undone::Written(head) => written(head),
@@ -194,7 +194,7 @@ pub fn undo_answer(answer: Undone) -> OracleAnswer
 // What compiling answers; the value of a result is the number of bytes written.
 pub fn compile_answer(answer: Compiled) -> OracleAnswer
     requires { FewGates (compiled answer) }
-    ensures* { λ r. ⌜ r ≡ exported (map_answer file_bytes (compiled answer)) ⌝ }
+    ensures { result ≡ exported (map_answer file_bytes (compiled answer)) }
 {
     match answer {
         Compiled::Written(head) => written(head),
