@@ -33,7 +33,7 @@ pub fn append<'a>(writer: GateWriter<'a>, gate: Gate) -> usize
     store(&mut *writer.area, count, gate)
 }
 
-// The same on a plain area and count. Callers use this one: what has a writer is proved by hand.
+// The same on a plain area and count.
 pub fn append_gate(area: &mut [u8], count: usize, gate: Gate) -> usize
     requires { file_length (count + 1) ≤ length area.old }
     ensures value { result ≡ count + 1 }

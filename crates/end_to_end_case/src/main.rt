@@ -4,6 +4,7 @@
 
 use end_to_end::compile_and_run;
 use run::Ran;
+use std::io;
 
 // The target's line, behind three inputs.
 const TARGET: usize = 3;
@@ -12,37 +13,27 @@ const TARGET: usize = 3;
 const WORK: usize = 4;
 
 // Writes a word and the lines: inputs, target and work line.
-fn write_lines(word: &[u8], lines: &[u8]) {
-    io::write_all(1, word);
-    let mut i = 0;
-    while i < lines.len() {
+fn write_lines(rt: &impl Print, word: &str, lines: &[u8]) -> io::Result<()> {
+    rt.print(word)?;
+    for (i, line) in lines.iter().enumerate() {
         if i == TARGET || i == WORK {
-            io::write_all(1, b" ");
+            rt.print(" ")?;
         }
-        io::print_decimal(1, lines[i] as u64);
-        i += 1;
+        rt.print(*line)?;
     }
-    io::write_all(1, b"\n");
+    rt.println("")
 }
 
 // Writes what was answered.
-fn write_answer(answer: Ran) {
+fn write_answer(rt: &impl Print, answer: Ran) -> io::Result<()> {
     match answer {
-        Ran::Done => {
-            io::write_all(1, b"done\n");
-        }
-        Ran::Refused(why) => {
-            io::write_all(1, b"refused ");
-            io::print_decimal(1, why.number());
-            io::write_all(1, b" ");
-            io::print_decimal(1, why.place());
-            io::write_all(1, b"\n");
-        }
+        Ran::Done => rt.println("done"),
+        Ran::Refused(why) => println!(rt; "refused {} {}", why.number(), why.place()),
     }
 }
 
 // Compiles the file and runs its circuit from this start.
-fn run_from(lines: &mut [u8]) {
+fn run_from(rt: &impl Print, lines: &mut [u8]) -> io::Result<()> {
     // The table of contents; 3 inputs and 1 output; the nodes INPUT 0, INPUT 1, AND 0 1, INPUT 2,
     // AND 2 3; the output is node 4.
     let file =
@@ -52,19 +43,20 @@ fn run_from(lines: &mut [u8]) {
         \x04\0";
     let mut sizes = [0u16; 5];
     let mut area = [0u8; 52];
-    write_lines(b"before ", lines);
-    write_answer(compile_and_run(file, 1024, &mut sizes, &mut area, lines));
-    write_lines(b"after  ", lines);
+    write_lines(rt, "before ", lines)?;
+    let answer = compile_and_run(file, 1024, &mut sizes, &mut area, lines);
+    write_answer(rt, answer)?;
+    write_lines(rt, "after  ", lines)
 }
 
-fn main() {
+fn main(rt: HostRuntime) -> io::Result<()> {
     // The work line starts at zero: the target gets the AND.
-    run_from(&mut [1, 1, 1, 0, 0]);
-    run_from(&mut [1, 1, 1, 1, 0]);
-    run_from(&mut [1, 0, 1, 1, 0]);
+    run_from(&rt, &mut [1, 1, 1, 0, 0])?;
+    run_from(&rt, &mut [1, 1, 1, 1, 0])?;
+    run_from(&rt, &mut [1, 0, 1, 1, 0])?;
     // It does not: the target gets something else, but it ends as it started.
-    run_from(&mut [1, 1, 1, 0, 1]);
-    run_from(&mut [0, 0, 1, 0, 1]);
+    run_from(&rt, &mut [1, 1, 1, 0, 1])?;
+    run_from(&rt, &mut [0, 0, 1, 0, 1])?;
     // The last line is missing.
-    run_from(&mut [1, 1, 1, 0]);
+    run_from(&rt, &mut [1, 1, 1, 0])
 }

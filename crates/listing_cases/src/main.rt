@@ -2,28 +2,45 @@
 // the file args.
 #![tactic(auto)]
 
-// Lists one program file.
-fn list_file(path: &[u8]) {
-    let fd = os::open_read(path);
-    if fd < 0 {
-        os::fail(path);
-        return;
+ghost use Rattle.std.specs.Prelude.{◌≤◌, length, IfOk};
+
+use std::fs::File;
+use std::io::Read;
+use std::rt::Files;
+use std::{env, io};
+
+// Reads a file up to its end, or until the buffer is full; how many bytes there are.
+fn read_file(rt: &impl Files, path: &str, input: &mut [u8]) -> io::Result<usize>
+    ensures { IfOk result (λ n. n ≤ length input.new) }
+{
+    let mut file = File::open(rt, path)?;
+    let mut done = 0;
+    while done < input.len() {
+        let n = file.read(&mut input[done..])?;
+        if n == 0 {
+            break;
+        }
+        done += n;
     }
-    let mut input = [0u8; 32768];
-    let n = io::read_full(fd, &mut input);
-    libc::close(fd);
-    let mut out = [0u8; list::LISTING_LENGTH];
-    let length = list::list(&input[..n], 1024, &mut out);
-    io::write_all(1, &out[..length]);
+    Ok(done)
 }
 
-fn main() {
-    let count = os::arg_count();
-    let mut i = 1;
-    while i < count {
-        let mut name = [0u8; 64];
-        let length = os::arg(i, &mut name);
-        list_file(&name[..length]);
-        i += 1;
+// Lists one program file. One that cannot be read is said to be so, and passed over.
+fn list_file(rt: &HostRuntime, path: &str) -> io::Result<()> {
+    let mut input = [0u8; 32768];
+    match read_file(rt, path, &mut input) {
+        Ok(n) => {
+            let mut out = [0u8; list::LISTING_LENGTH];
+            let length = list::list(&input[..n], 1024, &mut out);
+            rt.write_all(&out[..length])
+        }
+        Err(error) => eprintln!(rt; "{path}: {error}"),
     }
+}
+
+fn main(rt: HostRuntime) -> io::Result<()> {
+    for path in env::args(&rt)?.skip(1) {
+        list_file(&rt, path.as_str())?;
+    }
+    Ok(())
 }

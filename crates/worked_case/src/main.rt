@@ -4,8 +4,9 @@
 use circuit::reader::CircuitHead;
 use counting::count_shares;
 use shares::write_circuit;
+use std::io;
 
-fn main() {
+fn main(rt: HostRuntime) -> io::Result<()> {
     // INPUT 0, INPUT 1, AND 0 1, INPUT 2, AND 2 3, INPUT 3, AND 4 5; the output is node 6.
     let nodes =
         b"\x02\0\0\0\0\0\x02\0\x01\0\0\0\x05\0\0\0\x01\0\x02\0\x02\0\0\0\x05\0\x02\0\x03\0\x02\0\x03\0\0\0\x05\0\x04\0\x05\0";
@@ -19,5 +20,5 @@ fn main() {
         gates: needs.gates,
     };
     write_circuit(nodes, outputs, head, &mut area);
-    io::write_all(1, &area);
+    rt.write_all(&area)
 }
