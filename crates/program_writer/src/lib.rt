@@ -15,7 +15,7 @@ pub const FIRST_NODE: usize = 36;
 // Writes the program file of a node body whose last node is the one output.
 pub fn write_program(area: &mut [u8], inputs: usize, nodes: &[u8])
     requires few_nodes { FewNodes inputs (length nodes.now) }
-    requires nodes_in_bounds { body_file_length (length nodes.now) ≤ length area.old }
+    requires area_room { body_file_length (length nodes.now) ≤ length area.old }
     ensures { area.new ≡ sets area.old 0 (body_file inputs nodes.now) }
 {
     let end = nodes.len();

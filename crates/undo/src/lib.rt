@@ -63,8 +63,8 @@ fn count_kept(gates: &[u8], choices: &[u8]) -> usize
 
 // Stores gate i as gate k of the area, unless it is left out; how many gates are then stored.
 fn append_kept(area: &mut [u8], k: usize, gates: &[u8], i: usize, choices: &[u8]) -> usize
-    requires i_in_bounds { (8 * (i + 1) ≤ length gates.now) × (target (gate_at gates.now i) < length choices.now) }
-    requires i_in_bounds_2 { file_length (k + length (without (chosen choices.now) (gate_at gates.now i ∷ []))) ≤ length area.old }
+    requires in_range { (8 * (i + 1) ≤ length gates.now) × (target (gate_at gates.now i) < length choices.now) }
+    requires area_room { file_length (k + length (without (chosen choices.now) (gate_at gates.now i ∷ []))) ≤ length area.old }
     ensures value { result ≡ k + length (without (chosen choices.now) (gate_at gates.now i ∷ [])) }
     ensures area_after { area.new ≡ put_gates area.old k (without (chosen choices.now) (gate_at gates.now i ∷ [])) }
 {
