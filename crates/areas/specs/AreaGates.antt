@@ -1,5 +1,5 @@
 -- Gates that stand in a lent circuit area, and what the steps that store and reverse them ask for and leave.
-use Rattle.std.specs.Prelude.{◌≡◌, ℕ, ◌+◌, ◌*◌, ◌-◌, List, length, take, drop}
+use Rattle.std.specs.Prelude.{◌≡◌, ℕ, ◌+◌, ◌*◌, List, length, take, drop}
 use Rattle.std.proofs.lemmas.List.Edits.{sets}
 use Rattle.wire.specs.Lists.{tabulate_from}
 use Rattle.gate.specs.declared.gates.Gate.{Gate}

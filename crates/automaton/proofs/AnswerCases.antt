@@ -1,5 +1,5 @@
 -- Texts whose reading is computed: a formula, and the places of refusals at the corners of the language and of its limits. Assumes nothing.
-use Prim.Native.Nat.{ℕ, ◌+◌}
+use Prim.Native.Nat.{ℕ}
 use mathlib.Core.Path.{◌≡◌, refl}
 use mathlib.Core.List.{List, ◌++◌}
 use lib.ListN.{replicate}

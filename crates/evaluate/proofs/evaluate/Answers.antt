@@ -7,7 +7,6 @@ use Rattle.node.specs.Trees.{node_values}
 use Rattle.program.specs.Reading.{output_at}
 use mathlib.Core.Path.{◌≡◌, sym, ap, ◌∙◌}
 use native.Mathlib.Omega.{arith}
-use borrow.Author.Tests.{not-false}
 use Rattle.program.proofs.AcceptedLaws.{Read, read, read_refused}
 use Rattle.evaluate.specs.Evaluating.{evaluated}
 use Rattle.wire.proofs.BitLaws.{bits_count, bits_are}

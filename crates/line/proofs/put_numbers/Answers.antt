@@ -1,4 +1,3 @@
-use Prim.Native.Nat.{◌-◌}
 use Rattle.line.proofs.PutLaws.{each_start, each_fits, each_next, each_all}
 use Rattle.line.proofs.put_numbers.Goals as goal
 

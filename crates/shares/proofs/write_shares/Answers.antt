@@ -1,4 +1,3 @@
-use Prim.Native.Nat.{◌-◌}
 use native.Mathlib.Omega.{arith}
 use Rattle.shares.proofs.ShareLoop.{writing_start, writing_room, writing_next, writing_all}
 use Rattle.shares.proofs.write_shares.Goals as goal

@@ -1,4 +1,3 @@
-use Prim.Native.Nat.{◌-◌}
 use mathlib.Core.Path.{sym}
 use native.Mathlib.Omega.{arith}
 use Rattle.refusal.proofs.CheckLaws.{passed_start, passed_next, passed_fails, passed_all}

@@ -1,7 +1,5 @@
-use Prim.Native.Nat.{◌-◌}
 use mathlib.Core.Path.{sym, ◌∙◌}
 use native.Mathlib.Omega.{arith}
-use borrow.Author.Tests.{not-true, not-false}
 use Rattle.undo.proofs.UndoLaws.{counted_start, counted_out, counted_kept, counted_all, choosable}
 use Rattle.undo.proofs.count_kept.Goals as goal
 use Rattle.undo.proofs.count_kept.Goals.{then-not-left_out, else-not-left_out}

@@ -1,4 +1,3 @@
-use Prim.Native.Nat.{◌-◌}
 use Rattle.undo.proofs.UndoLaws.{UndoneStored}
 use Rattle.undo.proofs.write_undone.Given as goal
 

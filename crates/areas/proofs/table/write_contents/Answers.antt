@@ -1,6 +1,5 @@
 use native.Mathlib.Omega.{arith}
 use Rattle.areas.proofs.TableLaws.{stored_start, stored_next, stored_all, stored_small}
-use Prim.Native.Nat.{◌-◌}
 use Rattle.areas.proofs.table.write_contents.Goals as goal
 
 pub loop-i-init : goal.loop-i-init

@@ -1,5 +1,4 @@
 use native.Mathlib.Omega.{arith}
-use Prim.Native.Nat.{◌-◌}
 use mathlib.Core.Path.{sym, ◌∙◌}
 use Rattle.refusal.proofs.CheckLaws.{passed_start, passed_next, passed_fails, passed_all}
 use Rattle.gate_bytes.proofs.GateLaws.{read_good, read_bad, read_index}

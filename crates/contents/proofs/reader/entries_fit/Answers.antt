@@ -1,6 +1,5 @@
 use mathlib.Core.Path.{sym, ◌∙◌}
 use native.Mathlib.Omega.{arith}
-use Prim.Native.Nat.{◌-◌}
 use Rattle.contents.proofs.ContentsLaws.{followed_start, followed_next, followed_tag, followed_other, followed_end}
 use Rattle.contents.proofs.reader.entries_fit.Goals as goal
 

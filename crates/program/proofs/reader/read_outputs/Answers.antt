@@ -1,6 +1,5 @@
 use native.Mathlib.Omega.{arith}
 use borrow.Author.Tests.{lt-ltb, le-ltb}
-use Prim.Native.Nat.{◌-◌}
 use mathlib.Core.Path.{sym}
 use Rattle.refusal.proofs.CheckLaws.{passed_start, passed_next, passed_fails, passed_all}
 use Rattle.program.specs.Reading.{output_at, output_fits}

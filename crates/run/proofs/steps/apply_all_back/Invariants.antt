@@ -1,4 +1,4 @@
-use Prim.Native.Nat.{◌-◌, ◌/◌, ◌≤◌}
+use Prim.Native.Nat.{◌/◌, ◌≤◌}
 use Rattle.circuit.specs.Circuits.{gates_in}
 use mathlib.Core.List.{reverse}
 use lib.ListN.{length, take}

@@ -1,4 +1,3 @@
-use Prim.Native.Nat.{◌-◌}
 use native.Mathlib.Omega.{arith}
 use Rattle.wire.proofs.FillLaws.{filled_start}
 use Rattle.wire.proofs.AreaLaws.{cleared_next, cleared_all}

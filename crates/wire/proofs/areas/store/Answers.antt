@@ -1,4 +1,3 @@
-use Prim.Native.Nat.{◌-◌}
 use native.Mathlib.Omega.{arith}
 use Rattle.wire.proofs.AreaLaws.{stored_start, stored_next, stored_all}
 use Rattle.wire.proofs.areas.store.Goals as goal
