@@ -4,10 +4,11 @@
 
 ghost use Rattle.std.specs.Prelude.{◌≤◌, length, IfOk};
 
+use std::env::FillError;
 use std::fs::File;
 use std::io::Read;
-use std::rt::Files;
-use std::{env, io};
+use std::rt::{Env, Files};
+use std::{io, str};
 
 // Reads a file up to its end, or until the buffer is full; how many bytes there are.
 fn read_file(rt: &impl Files, path: &str, input: &mut [u8]) -> io::Result<usize>
@@ -38,9 +39,23 @@ fn list_file(rt: &HostRuntime, path: &str) -> io::Result<()> {
     }
 }
 
+// Lists the program file of this name.
+fn list_named(rt: &HostRuntime, name: &[u8]) -> io::Result<()> {
+    match str::from_utf8(name) {
+        Ok(path) => list_file(rt, path),
+        Err(_) => eprintln!(rt; "a name that is not UTF-8"),
+    }
+}
+
 fn main(rt: HostRuntime) -> io::Result<()> {
-    for path in env::args(&rt)?.skip(1) {
-        list_file(&rt, path.as_str())?;
+    for i in 1..usize::MAX {
+        let mut name = [0u8; 64];
+        match rt.arg(i, &mut name) {
+            Ok(n) => list_named(&rt, &name[..n])?,
+            // No file is looked for under a longer name.
+            Err(FillError::TooLong) => list_named(&rt, b"")?,
+            Err(FillError::NotPresent) => break,
+        }
     }
     Ok(())
 }
