@@ -30,7 +30,7 @@ returns-then-values-head c =
 pub returns-then-inputs-head : goal.returns-then-inputs-head
 returns-then-inputs-head c =
     let good : Read c.args.file.now c.in-Good.head = read c.args.file.now c.read_program-answer.ensures c.in-Good.is in
-    let o = inputs_bad (word_on c.args.inputs.now) (count_fits c.args.inputs.now) c.args.file.now c.args.values.now c.args.output good c.if-values-head.false (ne_eqb _ _ c.if-inputs-head.true) in
+    let o = inputs_bad (word_on c.args.inputs.now) (count_fits c.args.inputs.now) c.args.file.now c.args.values.now c.args.output good c.if-values-head.false (ne_eqb (length c.args.inputs.now) c.in-Good.head.inputs (λ e. omega (arith, e, c.if-inputs-head.true))) in
     let both = same_outcome (word_on c.args.inputs.now) (count_fits c.args.inputs.now) c.args.file.now c.args.values.now c.args.output o (words_outcome c.args.file.now c.args.values.now c.args.inputs.now c.args.output) in
     record { result_value = both.0; values_after = both.1 }
 
@@ -49,7 +49,8 @@ node_body-requires c =
 pub fill_words-requires : goal.fill_words-requires
 fill_words-requires c =
     let good : Read c.args.file.now c.in-Good.head = read c.args.file.now c.read_program-answer.ensures c.in-Good.is in
-    let ready : Ready (word_on c.args.inputs.now) (count_fits c.args.inputs.now) c.args.file.now c.args.values.now c.args.output good = record { room = omega (arith, c.if-values-head.false); tested = eq-eqb (length c.args.inputs.now) c.in-Good.head.inputs (omega (arith, c.if-inputs-head.false)); output = omega (arith, c.if-head-output.false) } in
+    let counted_to_fill : length c.args.inputs.now ≡ c.in-Good.head.inputs = omega (arith, c.if-inputs-head.false) in
+    let ready : Ready (word_on c.args.inputs.now) (count_fits c.args.inputs.now) c.args.file.now c.args.values.now c.args.output good = record { room = omega (arith, c.if-values-head.false); tested = eq-eqb (length c.args.inputs.now) c.in-Good.head.inputs counted_to_fill; output = omega (arith, c.if-head-output.false) } in
     let read = good in
     let q = ready in
     let fits = fillable (word_on c.args.inputs.now) (count_fits c.args.inputs.now) c.args.file.now c.args.values.now c.args.output read q (eqb-true _ _ q.tested) in
@@ -63,13 +64,15 @@ output_body-requires c =
 pub output_at-node-requires : goal.output_at-node-requires
 output_at-node-requires c =
     let good : Read c.args.file.now c.in-Good.head = read c.args.file.now c.read_program-answer.ensures c.in-Good.is in
-    let ready : Ready (word_on c.args.inputs.now) (count_fits c.args.inputs.now) c.args.file.now c.args.values.now c.args.output good = record { room = omega (arith, c.if-values-head.false); tested = eq-eqb (length c.args.inputs.now) c.in-Good.head.inputs (omega (arith, c.if-inputs-head.false)); output = omega (arith, c.if-head-output.false) } in
+    let counted_at_node : length c.args.inputs.now ≡ c.in-Good.head.inputs = omega (arith, c.if-inputs-head.false) in
+    let ready : Ready (word_on c.args.inputs.now) (count_fits c.args.inputs.now) c.args.file.now c.args.values.now c.args.output good = record { room = omega (arith, c.if-values-head.false); tested = eq-eqb (length c.args.inputs.now) c.in-Good.head.inputs counted_at_node; output = omega (arith, c.if-head-output.false) } in
     rw c.output_body.ensures (output_there (word_on c.args.inputs.now) (count_fits c.args.inputs.now) c.args.file.now c.args.values.now c.args.output good ready)
 
 pub offset_bounds-values-node : goal.offset_bounds-values-node
 offset_bounds-values-node c =
     let good : Read c.args.file.now c.in-Good.head = read c.args.file.now c.read_program-answer.ensures c.in-Good.is in
-    let ready : Ready (word_on c.args.inputs.now) (count_fits c.args.inputs.now) c.args.file.now c.args.values.now c.args.output good = record { room = omega (arith, c.if-values-head.false); tested = eq-eqb (length c.args.inputs.now) c.in-Good.head.inputs (omega (arith, c.if-inputs-head.false)); output = omega (arith, c.if-head-output.false) } in
+    let counted_at_offset : length c.args.inputs.now ≡ c.in-Good.head.inputs = omega (arith, c.if-inputs-head.false) in
+    let ready : Ready (word_on c.args.inputs.now) (count_fits c.args.inputs.now) c.args.file.now c.args.values.now c.args.output good = record { room = omega (arith, c.if-values-head.false); tested = eq-eqb (length c.args.inputs.now) c.in-Good.head.inputs counted_at_offset; output = omega (arith, c.if-head-output.false) } in
     let named : c.output_at-node.result ≡ output_at (body_of c.args.file.now 2) c.args.output = c.output_at-node.ensures ∙ ap (λ (l : List ℕ). output_at l c.args.output) c.output_body.ensures in
     let there = node_there (word_on c.args.inputs.now) (count_fits c.args.inputs.now) c.args.file.now c.args.values.now c.args.output good ready in
     omega (arith, named, c.well_formed.1.0.1, there)
@@ -77,7 +80,8 @@ offset_bounds-values-node c =
 pub bounds-values-node : goal.bounds-values-node
 bounds-values-node c =
     let good : Read c.args.file.now c.in-Good.head = read c.args.file.now c.read_program-answer.ensures c.in-Good.is in
-    let ready : Ready (word_on c.args.inputs.now) (count_fits c.args.inputs.now) c.args.file.now c.args.values.now c.args.output good = record { room = omega (arith, c.if-values-head.false); tested = eq-eqb (length c.args.inputs.now) c.in-Good.head.inputs (omega (arith, c.if-inputs-head.false)); output = omega (arith, c.if-head-output.false) } in
+    let counted_at_value : length c.args.inputs.now ≡ c.in-Good.head.inputs = omega (arith, c.if-inputs-head.false) in
+    let ready : Ready (word_on c.args.inputs.now) (count_fits c.args.inputs.now) c.args.file.now c.args.values.now c.args.output good = record { room = omega (arith, c.if-values-head.false); tested = eq-eqb (length c.args.inputs.now) c.in-Good.head.inputs counted_at_value; output = omega (arith, c.if-head-output.false) } in
     let named : c.output_at-node.result ≡ output_at (body_of c.args.file.now 2) c.args.output = c.output_at-node.ensures ∙ ap (λ (l : List ℕ). output_at l c.args.output) c.output_body.ensures in
     let there = node_there (word_on c.args.inputs.now) (count_fits c.args.inputs.now) c.args.file.now c.args.values.now c.args.output good ready in
     omega (arith, named, c.fill_words.auto.words, there)
@@ -86,7 +90,8 @@ pub returns : goal.returns
 unfolding node_words
 returns c =
     let good : Read c.args.file.now c.in-Good.head = read c.args.file.now c.read_program-answer.ensures c.in-Good.is in
-    let ready : Ready (word_on c.args.inputs.now) (count_fits c.args.inputs.now) c.args.file.now c.args.values.now c.args.output good = record { room = omega (arith, c.if-values-head.false); tested = eq-eqb (length c.args.inputs.now) c.in-Good.head.inputs (omega (arith, c.if-inputs-head.false)); output = omega (arith, c.if-head-output.false) } in
+    let counted_at_end : length c.args.inputs.now ≡ c.in-Good.head.inputs = omega (arith, c.if-inputs-head.false) in
+    let ready : Ready (word_on c.args.inputs.now) (count_fits c.args.inputs.now) c.args.file.now c.args.values.now c.args.output good = record { room = omega (arith, c.if-values-head.false); tested = eq-eqb (length c.args.inputs.now) c.in-Good.head.inputs counted_at_end; output = omega (arith, c.if-head-output.false) } in
     let named : c.output_at-node.result ≡ output_at (body_of c.args.file.now 2) c.args.output = c.output_at-node.ensures ∙ ap (λ (l : List ℕ). output_at l c.args.output) c.output_body.ensures in
     let l = c.fill_words.new.words in
     let filled = rw c.node_body.ensures at c.fill_words.ensures in
