@@ -3,6 +3,7 @@
 
 ghost use Rattle.std.specs.Prelude.{◌≡◌, ◌≤◌};
 ghost use Rattle.wire.specs.Limits.{most_gates};
+// In a clause `result` is what is returned, so the constructor of that name is `given`.
 ghost use Rattle.refusal.specs.Answers.{result as given, refuse, map_answer};
 ghost use Rattle.program.specs.Reading.{program_read};
 ghost use Rattle.evaluate.specs.Evaluating.{evaluated};
