@@ -1,16 +1,22 @@
 -- Laws of gates that are copied as they stand: fields that are right for their kind are the writing of their gate. Assumes nothing.
-use Prim.Native.Nat.{ℕ, ◌+◌, ◌*◌, ◌<◌, ◌≤◌}
+use Prim.Native.Nat.{ℕ, ◌+◌, ◌*◌, ◌-◌, ◌<◌, ◌≤◌}
 use native.Mathlib.Omega.{arith}
+use native.Mathlib.Nat.{zero-add}
 use mathlib.Core.Path.{◌≡◌, refl, sym, ap, ap₂, ◌∙◌}
-use mathlib.Core.List.{List, [], ◌∷◌}
-use lib.ListN.{length, get_or, drop}
-use lib.Seq.{sets, get_or-drop}
-use Rattle.wire.specs.Bytes.{at16}
+use mathlib.Core.Bool.{true}
+use mathlib.Core.List.{List, [], ◌∷◌, ◌++◌}
+use lib.ListN.{length, get_or, take, drop, length-take, length-drop}
+use borrow.Author.Tests.{eqb-true}
+use lib.Seq.{sets, sets-eq, paste, get_or-take, get_or-drop}
+use Rattle.std.proofs.lemmas.List.{drop_all}
+use Rattle.std.specs.List.{CopiedTo}
+use Rattle.wire.specs.Bytes.{at16, Bytes}
+use Rattle.wire.proofs.ByteLaws.{drop_fields, drop16}
 use Rattle.wire.proofs.ListLaws.{sets_before, sets_in}
 use Rattle.refusal.proofs.CheckLaws.{both_first}
 use Rattle.gate.specs.declared.gates.Gate.{Gate}
 use Rattle.gate.specs.Gates.{well_formed, WellFormed, All}
-use Rattle.gate_bytes.specs.GateBytes.{field_bytes, gates_bytes, gate_of, fields_fit, gate_at, gate_fits}
+use Rattle.gate_bytes.specs.GateBytes.{gate_bytes, gates_bytes, gate_of, fields_fit, gate_at, gate_fits}
 use Rattle.gate_bytes.proofs.ByteLaws.{gates_length}
 use Rattle.gate_bytes.proofs.ReadBackLaws.{gates_fit, only_fields}
 use Rattle.circuit.specs.Format.{first_gate, file_length}
@@ -46,17 +52,49 @@ module _ (area : List ℕ) (i : ℕ) where
       same_gate (drop first_gate area) area (8 * i) (file_length i)
       (λ n h. let e : first_gate + (8 * i + n) ≡ file_length i + n = omega arith in get_or-drop first_gate area (8 * i + n) 0 ∙ ap (λ (p : ℕ). get_or area p 0) e)
 
-  -- they are stored once more
-  pub copied : (k : ℕ) {kind a b t from to : ℕ} {after : List ℕ} → InOrder area i → from ≡ file_length i → to ≡ file_length k
-      → kind ≡ get_or area from 0 → a ≡ at16 area (from + 2) → b ≡ at16 area (from + 4) → t ≡ at16 area (from + 6)
-      → after ≡ sets area to (field_bytes kind a b t) → after ≡ put_gates area k (gate_in area i ∷ [])
-  unfolding InOrder
-  copied k o ef et ek ea eb ec e =
+  -- its eight bytes
+  abbrev eight : List ℕ
+  eight = take 8 (drop (file_length i) area)
+
+  -- are its writing
+  module _ (there : file_length (i + 1) ≤ length area) (o : InOrder area i) (small : (n : ℕ) → n < 8 → get_or area (file_length i + n) 0 < 256) where
+    eight_long : length eight ≡ 8
+    eight_long = simp (length-take, length-drop) (omega arith)
+
+    eight_at : (n : ℕ) → n < 8 → get_or eight (0 + n) 0 ≡ get_or area (file_length i + n) 0
+    eight_at n h = ap (λ (p : ℕ). get_or eight p 0) (zero-add n) ∙ get_or-take 8 (drop (file_length i) area) n 0 h ∙ get_or-drop (file_length i) area n 0
+
+    eight_written : eight ≡ gate_bytes (gate_in area i)
+    unfolding InOrder fields_fit
+    eight_written =
+        let bytes : Bytes eight = λ n h.
+        let k : n < 8 = omega (arith, eight_long) in
+        let e : 0 + n ≡ n = zero-add n in
+        omega (arith, ap (λ (p : ℕ). get_or eight p 0) e, eight_at n k, small n k) in
+        let fit : fields_fit (get_or eight 0 0) (get_or eight 1 0) (at16 eight 2) (at16 eight 4) ≡ true = same_fit eight area 0 (file_length i) eight_at ∙ o in
+        let blank : get_or eight 1 0 ≡ 0 = eqb-true (get_or eight 1 0) 0 (both_first _ _ fit) in
+        let none : drop 8 eight ≡ [] = drop_all 8 eight (omega (arith, eight_long)) in
+        drop_fields eight bytes 0 (omega (arith, eight_long))
+        ∙ rw (blank, drop16 eight bytes 6 (omega (arith, eight_long)), none) (only_fields (get_or eight 0 0) (get_or eight 1 0) (at16 eight 2) (at16 eight 4) fit (at16 eight 6))
+        ∙ ap gate_bytes (same_gate eight area 0 (file_length i) eight_at ∙ sym fields_in)
+
+  -- they are copied
+  pub copied : (k : ℕ) {from to n : ℕ} {after : List ℕ} → InOrder area i → i < k → file_length (k + 1) ≤ length area
+      → from ≡ file_length i → to ≡ file_length k → n ≡ 8
+      → after ≡ paste area to (drop from area) n → CopiedTo area after from to n → ((j : ℕ) → get_or after j 0 < 256)
+      → after ≡ put_gates area k (gate_in area i ∷ [])
+  copied k {from} {to} {n} {after} o h r ef et en e same small =
       let at : ℕ = file_length i in
+      let same_bytes : (j : ℕ) → j < 8 → get_or area (at + j) 0 < 256 = λ j b.
+      let there : from + (to + j - to) ≡ at + j = omega arith in
+      omega (arith, small (to + j), same (to + j) 0 (omega arith) (omega arith), ap (λ (p : ℕ). get_or area p 0) there) in
+      let written : eight ≡ gate_bytes (gate_in area i) = eight_written (omega arith) o same_bytes in
+      let long : 8 ≡ length eight = sym (eight_long (omega arith) o same_bytes) in
       e
-      ∙ rw (et, ek, ea, eb, ec, ef) (ap (sets area (file_length k)) (only_fields (get_or area at 0) (get_or area (at + 1) 0) (at16 area (at + 2)) (at16 area (at + 4)) o (at16 area (at + 6))))
-      ∙ put_one area k _
-      ∙ ap (λ (g : Gate). put_gates area k (g ∷ [])) (sym fields_in)
+      ∙ rw (ef, et, en) (ap (λ (m : ℕ). take (file_length k) area ++ eight ++ drop (file_length k + m) area) long)
+      ∙ sym (sets-eq eight area (file_length k) (omega (arith, long)))
+      ∙ ap (sets area (file_length k)) written
+      ∙ put_one area k (gate_in area i)
 
   -- gates that are stored behind it leave it in order
   pub order_before : (k : ℕ) (gs : List Gate) → i < k → InOrder area i → InOrder (put_gates area k gs) i

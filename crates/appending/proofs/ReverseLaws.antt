@@ -12,11 +12,12 @@ use Rattle.gate.specs.declared.gates.Gate.{Gate}
 use Rattle.gate.specs.Gates.{target}
 use Rattle.gate.specs.Running.{without, uncompute}
 use Rattle.gate.proofs.UncomputeLaws.{uncompute_snoc, one_out, one_kept}
+use Rattle.gate_bytes.specs.GateBytes.{gate_at}
 use Rattle.circuit.specs.Format.{file_length}
 use Rattle.areas.specs.AreaGates.{put_gates, gate_in, gates_from, body_in, Stored}
 use Rattle.appending.specs.Reversing.{InOrder, Repeatable, Reversible}
 use Rattle.areas.proofs.WriterLaws.{put_length, put_none, put_append}
-use Rattle.areas.proofs.AreaLaws.{body_long, put_before, from_last, stored_none}
+use Rattle.areas.proofs.AreaLaws.{body_long, body_gate, put_before, from_last, stored_none}
 use Rattle.appending.proofs.CopyLaws.{order_before}
 
 module _ (area : List ℕ) (i k out : ℕ) where
@@ -24,15 +25,20 @@ module _ (area : List ℕ) (i k out : ℕ) where
   pub again_there : {body : List ℕ} → Repeatable area i k out → body ≡ body_in area k → 8 * (i + 1) ≤ length body
   again_there r e = omega (arith, ap length e, body_long area k r.there, r.before)
 
-  -- a gate that is left out is not written again
-  pub again_none : out ≡ target (gate_in area i) → Stored (without (eqb out) (gate_in area i ∷ [])) k k area area
-  again_none e =
-      rw (one_out (eqb out) (gate_in area i) (eq-eqb out (target (gate_in area i)) e)) (stored_none k area)
+  -- and the target that is read is its target
+  pub again_target : {body : List ℕ} {t : ℕ} → Repeatable area i k out → body ≡ body_in area k → t ≡ target (gate_at body i) → t ≡ target (gate_in area i)
+  again_target r e f =
+      f ∙ ap (λ (b : List ℕ). target (gate_at b i)) e ∙ ap target (body_gate area k i r.before r.there)
 
-  module _ (other : out ≢ target (gate_in area i)) where
+  -- a gate that is left out is not written again
+  pub again_none : {t : ℕ} → t ≡ target (gate_in area i) → out ≡ t → Stored (without (eqb out) (gate_in area i ∷ [])) k k area area
+  again_none is e =
+      rw (one_out (eqb out) (gate_in area i) (eq-eqb out (target (gate_in area i)) (e ∙ is))) (stored_none k area)
+
+  module _ {t : ℕ} (is : t ≡ target (gate_in area i)) (other : out ≢ t) where
     -- a gate that is not left out
     one : without (eqb out) (gate_in area i ∷ []) ≡ gate_in area i ∷ []
-    one = one_kept (eqb out) (gate_in area i) (ne_eqb out (target (gate_in area i)) other)
+    one = one_kept (eqb out) (gate_in area i) (ne_eqb out (target (gate_in area i)) (λ e. other (e ∙ sym is)))
 
     -- there is room for another one
     pub again_room : Repeatable area i k out → file_length (k + 1) ≤ length area

@@ -1,5 +1,5 @@
 -- Laws of writing a circuit file into an area. Assumes nothing.
-use Prim.Native.Nat.{ℕ, ◌+◌, ◌≤◌}
+use Prim.Native.Nat.{ℕ, ◌+◌, ◌*◌, ◌≤◌}
 use native.Mathlib.Omega.{arith}
 use mathlib.Core.Path.{◌≡◌, refl, sym, ap, ◌∙◌}
 use mathlib.Core.List.{List, [], ◌∷◌, ◌++◌, append-nil}
@@ -9,6 +9,7 @@ use Rattle.refusal.specs.Answers.{result}
 use Rattle.wire.specs.Bytes.{bytes16}
 use Rattle.contents.specs.Contents.{table_length, contents_bytes}
 use Rattle.contents.specs.Steps.{total}
+use Rattle.areas.specs.declared.table.Body.{Body}
 use Rattle.areas.specs.Tables.{WritableTable}
 use Rattle.wire.proofs.AreaLaws.{area_written}
 use Rattle.wire.proofs.ListLaws.{sets_then}
@@ -18,15 +19,19 @@ use Rattle.gate_bytes.specs.GateBytes.{gate_bytes, gates_bytes}
 use Rattle.gate_bytes.proofs.ByteLaws.{gates_length, gates_append}
 use Rattle.circuit.specs.declared.reader.CircuitHead.{CircuitHead}
 use Rattle.circuit.specs.Circuits.{Circuit, head_of, InRange}
-use Rattle.circuit.specs.Format.{tags, file_length, head_bytes, opening_bytes, circuit_file}
+use Rattle.circuit.specs.Format.{tags, head_length, file_length, head_bytes, opening_bytes, circuit_file}
 use Rattle.wire.specs.Areas.{area_after}
 use Rattle.areas.specs.AreaGates.{put_gates}
 use Rattle.circuit.proofs.FormatLaws.{lengths, opening_length, file_length_lem}
 
--- the table of contents of a circuit file can be written
-pub writable : (h : CircuitHead) (room : ℕ) → InRange h → file_length 0 ≤ room → WritableTable tags (lengths h) room
+-- the bodies of a circuit file: the head and the gates
+abbrev bodies : CircuitHead → List Body
+bodies h = record { tag = 17; length = head_length } ∷ record { tag = 18; length = 8 * h.gates } ∷ []
+
+-- their table of contents can be written
+pub writable : (h : CircuitHead) (room : ℕ) → InRange h → file_length 0 ≤ room → WritableTable (bodies h) room
 unfolding total
-writable h room s r = record { paired = refl; few = omega arith; fits = omega arith; small = omega (arith, s.gates_most) }
+writable h room s r = record { few = omega arith; fits = omega arith; small = omega (arith, s.gates_most) }
 
 -- the stores of the table and of the head's numbers, one after the other, are one run
 pub opening_stores : (l : List ℕ) (h : CircuitHead) {l₁ l₂ l₃ l₄ : List ℕ}

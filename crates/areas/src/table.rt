@@ -3,31 +3,38 @@ ghost use Rattle.std.specs.Prelude.{◌≡◌, ◌++◌, ◌+◌, ◌≤◌, len
 ghost use Rattle.std.proofs.lemmas.List.Edits.{sets};
 ghost use Rattle.wire.specs.Bytes.{bytes16, bytes32};
 ghost use Rattle.contents.specs.Contents.{contents_bytes};
-ghost use Rattle.areas.specs.Tables.{WritableTable};
+ghost use Rattle.areas.specs.Tables.{WritableTable, tags_of, lengths_of};
 
 use wire::numbers::{put16, put32};
 
-// Stores one entry, whose first byte has index at.
-fn put_entry(area: &mut [u8], at: usize, tag: u16, start: u32, len: u32)
-    requires { at + 10 ≤ length area.old }
-    ensures { area.new ≡ sets area.old at (bytes16 tag ++ (bytes32 start ++ bytes32 len)) }
-{
-    put16(area, at, tag);
-    put32(area, at + 2, start);
-    put32(area, at + 6, len);
+// A body of a file, as its entry in the table of contents has it.
+#[derive(Clone, Copy)]
+pub struct Body {
+    pub tag: u16,
+    pub length: u32,
 }
 
-// Stores the table of contents of bodies with these tags and lengths at the front of the area.
-pub fn write_contents(area: &mut [u8], tags: &[u16], lengths: &[u32])
-    requires { WritableTable tags.now lengths.now (length area.old) }
-    ensures { area.new ≡ sets area.old 0 (contents_bytes tags.now lengths.now) }
+impl Body {
+    // Stores the entry of the body, which starts at start; the entry's first byte has index at.
+    fn put_entry(self, area: &mut [u8], at: usize, start: u32)
+        requires { at + 10 ≤ length area.old }
+        ensures { area.new ≡ sets area.old at (bytes16 self.tag ++ (bytes32 start ++ bytes32 self.length)) }
+    {
+        put16(area, at, self.tag);
+        put32(area, at + 2, start);
+        put32(area, at + 6, self.length);
+    }
+}
+
+// Stores the table of contents of these bodies at the front of the area.
+pub fn write_contents(area: &mut [u8], bodies: &[Body])
+    requires { WritableTable bodies.now (length area.old) }
+    ensures { area.new ≡ sets area.old 0 (contents_bytes (tags_of bodies.now) (lengths_of bodies.now)) }
 {
-    put16(area, 0, tags.len() as u16);
-    let mut start = 2 + 10 * (tags.len() as u32);
-    let mut i = 0;
-    while i < tags.len() {
-        put_entry(area, 2 + 10 * i, tags[i], start, lengths[i]);
-        start = start + lengths[i];
-        i += 1;
+    put16(area, 0, bodies.len() as u16);
+    let mut start = 2 + 10 * (bodies.len() as u32);
+    for (i, body) in bodies.iter().enumerate() {
+        body.put_entry(area, 2 + 10 * i, start);
+        start += body.length;
     }
 }

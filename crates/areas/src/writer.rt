@@ -5,7 +5,7 @@ ghost use Rattle.circuit.specs.Circuits.{InRange};
 ghost use Rattle.circuit.specs.Format.{opening_bytes, file_length};
 ghost use Rattle.areas.specs.AreaGates.{put_gates};
 
-use crate::table::write_contents;
+use crate::table::{Body, write_contents};
 use circuit::layout::{FIRST_GATE, HEAD_LENGTH, file_length};
 use circuit::reader::CircuitHead;
 use gate::gates::Gate;
@@ -17,8 +17,17 @@ pub fn write_head(area: &mut [u8], head: CircuitHead)
     requires { InRange head × (file_length 0 ≤ length area.old) }
     ensures { area.new ≡ sets area.old 0 (opening_bytes head) }
 {
-    let lengths = [HEAD_LENGTH as u32, 8 * (head.gates as u32)];
-    write_contents(area, &[17, 18], &lengths);
+    let bodies = [
+        Body {
+            tag: 17,
+            length: HEAD_LENGTH as u32,
+        },
+        Body {
+            tag: 18,
+            length: 8 * (head.gates as u32),
+        },
+    ];
+    write_contents(area, &bodies);
     let at = FIRST_GATE - HEAD_LENGTH;
     put16(area, at, head.inputs as u16);
     put16(area, at + 2, head.outputs as u16);

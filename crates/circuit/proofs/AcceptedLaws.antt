@@ -2,19 +2,18 @@
 use Prim.Native.Nat.{ℕ, ◌/◌, ◌<◌, ◌≤◌}
 use native.Mathlib.Omega.{arith}
 use mathlib.Core.Path.{◌≡◌, refl, sym, ap, ◌∙◌}
-use mathlib.Core.Logic.{◌≢◌}
 use mathlib.Core.Bool.{Bool, true, false}
 use mathlib.Core.List.{List}
 use lib.ListN.{length}
-use borrow.Author.Tests.{eq-eqb, ne_eqb}
-use Rattle.refusal.specs.Answers.{Answer, result, refuse, check, check_each, map_answer, number_of, place_of}
+use Rattle.std.specs.Prelude.{Result, Ok, Err}
+use Rattle.refusal.specs.Answers.{Answer, answer_of, checked_each, result, refuse, check, check_each, map_answer, number_of, place_of}
 use Rattle.wire.specs.Bits.{Bits, bits_fit}
 use Rattle.refusal.specs.Checks.{all_below, lowest}
 use Rattle.contents.specs.Contents.{table_fits, entries_fit, body_of}
 use Rattle.contents.specs.Steps.{Laid}
 use Rattle.refusal.specs.declared.causes.Refusal.{Refusal}
 use Rattle.refusal.specs.declared.causes.Refusal.TheVariants as cause
-use Rattle.refusal.proofs.AnswerLaws.{checked, checked_next, same_result, Came, came, came_refused, led, Never, never_result, never_check, never_then}
+use Rattle.refusal.proofs.AnswerLaws.{checked, checked_next, same_result, Came, came, came_refused, led, Never, never_result, never_check, never_then, each_next, each_refused}
 use Rattle.wire.proofs.BitLaws.{bits_count, bits_are}
 use Rattle.refusal.proofs.CheckLaws.{all_below_lem}
 use Rattle.gate.specs.Gates.{WellFormed, All}
@@ -22,11 +21,9 @@ use Rattle.gate_bytes.specs.GateBytes.{gate_at, gate_fits}
 use Rattle.gate.proofs.AllLaws.{all_tabulate}
 use Rattle.gate_bytes.proofs.GateLaws.{fits_formed}
 use Rattle.circuit.specs.declared.reader.CircuitHead.{CircuitHead}
-use Rattle.circuit.specs.declared.reader.CircuitRead.{CircuitRead}
-use Rattle.circuit.specs.declared.reader.CircuitRead.TheVariants.{Good, Refused}
 use Rattle.circuit.specs.Circuits.{Circuit, line_count, head_of, head_lines, most_lines, Legal, gates_in}
 use Rattle.circuit.specs.Format.{tags}
-use Rattle.circuit.specs.Reading.{lengths_fit, ranges_fit, head_in, read_head, circuit_of, read_circuit, read_with_lines, circuit_read}
+use Rattle.circuit.specs.Reading.{lengths_fit, ranges_fit, head_in, read_head, circuit_of, read_circuit, read_with_lines}
 use Rattle.circuit.proofs.GateBodyLaws.{gates_count}
 use Rattle.circuit.proofs.ReadingLaws.{Headed, headed, gates_counted, lines_most}
 
@@ -146,18 +143,18 @@ reader_room f lines =
         (never_check 11 (ranges_fit f) cause.Range (result (head_in f)) (omega arith) (never_result 11 (head_in f)))))
 
 -- the reader's answers, case by case
-module _ (f : List ℕ) {r : CircuitRead} (e : circuit_read r ≡ read_head f) where
-  head_refused : {why : Refusal} → r ≡ Refused why → read_head f ≡ refuse why
-  head_refused g = sym e ∙ ap circuit_read g
+module _ (f : List ℕ) {r : Result CircuitHead Refusal} (e : answer_of r ≡ read_head f) where
+  head_refused : {why : Refusal} → r ≡ Err why → read_head f ≡ refuse why
+  head_refused g = sym e ∙ ap answer_of g
 
   -- a refusal of the head is passed on
-  pub head_passed : {why : Refusal} → r ≡ Refused why → circuit_read r ≡ map_answer head_of (read_circuit f)
+  pub head_passed : {why : Refusal} → r ≡ Err why → refuse why ≡ map_answer head_of (read_circuit f)
   unfolding read_circuit
-  head_passed g = ap circuit_read g ∙ rw (head_refused g) refl
+  head_passed g = rw (head_refused g) refl
 
-  module _ {h : CircuitHead} (g : r ≡ Good h) where
+  module _ {h : CircuitHead} (g : r ≡ Ok h) where
     head_good : read_head f ≡ result h
-    head_good = sym e ∙ ap circuit_read g
+    head_good = sym e ∙ ap answer_of g
 
     pub good_headed : Headed f h
     good_headed = headed f h head_good
@@ -165,16 +162,22 @@ module _ (f : List ℕ) {r : CircuitRead} (e : circuit_read r ≡ read_head f) w
     abbrev fits : ℕ → Bool
     fits = gate_fits (head_lines h) (body_of f 1)
 
-    -- the lowest gate that is not in order is refused
-    pub gate_refused : {k : ℕ} → k ≡ lowest fits h.gates → k ≢ h.gates → refuse (cause.Gate k) ≡ map_answer head_of (read_circuit f)
-    unfolding read_circuit
-    gate_refused {k} l n =
-        ap (λ (i : ℕ). refuse (cause.Gate i)) l ∙ rw (head_good, ne_eqb (lowest fits h.gates) h.gates (λ q. n (l ∙ q))) refl
+    -- the gates are checked as the file asks
+    gates_said : {lines : ℕ} {body : List ℕ} → lines ≡ head_lines h → body ≡ body_of f 1
+        → checked_each (gate_fits lines body) (length body / 8) cause.Gate ≡ checked_each fits h.gates cause.Gate
+    gates_said l b = rw (l, b, gates_counted f good_headed) refl
 
-    -- and where there is none the circuit is read
-    pub gates_good : lowest fits h.gates ≡ h.gates → result h ≡ map_answer head_of (read_circuit f)
-    unfolding read_circuit circuit_of
-    gates_good l = rw (head_good, eq-eqb (lowest fits h.gates) h.gates l, gates_count (body_of f 1) ∙ gates_counted f good_headed) refl
+    module _ {lines : ℕ} {body : List ℕ} (l : lines ≡ head_lines h) (b : body ≡ body_of f 1) {a : Result (Unit {0}) Refusal}
+        (said : answer_of a ≡ checked_each (gate_fits lines body) (length body / 8) cause.Gate) where
+      -- a refusal of a gate is passed on
+      pub gate_refused : {why : Refusal} → a ≡ Err why → refuse why ≡ map_answer head_of (read_circuit f)
+      unfolding read_circuit
+      gate_refused {why} g = rw (head_good, each_refused fits h.gates cause.Gate (said ∙ gates_said l b) (result (circuit_of h (body_of f 1))) g) refl
+
+      -- and where there is none the circuit is read
+      pub gates_good : a ≡ Ok tt → result h ≡ map_answer head_of (read_circuit f)
+      unfolding read_circuit circuit_of
+      gates_good g = rw (head_good, each_next fits h.gates cause.Gate (said ∙ gates_said l b) (result (circuit_of h (body_of f 1))) g, gates_count (body_of f 1) ∙ gates_counted f good_headed) refl
 
 -- a circuit that was read, with bytes that pass the test of cause 13 or do not
 pub has_lines : (f lines : List ℕ) (c : Circuit) → read_circuit f ≡ result c → bits_fit (line_count c) lines ≡ true → read_with_lines f lines ≡ result c
@@ -185,16 +188,16 @@ pub without_lines : (f lines : List ℕ) (c : Circuit) → read_circuit f ≡ re
 unfolding read_with_lines
 without_lines f lines c e t = rw (e, t) refl
 
-module _ (f lines : List ℕ) {r : CircuitRead} (e : circuit_read r ≡ map_answer head_of (read_circuit f)) where
+module _ (f lines : List ℕ) {r : Result CircuitHead Refusal} (e : answer_of r ≡ map_answer head_of (read_circuit f)) where
   -- a refusal of the circuit is passed on
-  pub circuit_passed : {why : Refusal} → r ≡ Refused why → circuit_read r ≡ map_answer head_of (read_with_lines f lines)
+  pub circuit_passed : {why : Refusal} → r ≡ Err why → refuse why ≡ map_answer head_of (read_with_lines f lines)
   unfolding read_with_lines
   circuit_passed {why} g =
-      ap circuit_read g ∙ rw (came_refused head_of (read_circuit f) (number_of why) (place_of why) (sym (ap circuit_read g) ∙ e)) refl
+      rw (came_refused head_of (read_circuit f) (number_of why) (place_of why) (sym (ap answer_of g) ∙ e)) refl
 
-  module _ {h : CircuitHead} (g : r ≡ Good h) where
+  module _ {h : CircuitHead} (g : r ≡ Ok h) where
     abbrev good_came : Came head_of (read_circuit f) h
-    good_came = came head_of (read_circuit f) h (sym (ap circuit_read g) ∙ e)
+    good_came = came head_of (read_circuit f) h (sym (ap answer_of g) ∙ e)
 
     pub good_lines_most : head_lines h ≤ most_lines
     good_lines_most =

@@ -8,18 +8,16 @@ use lib.ListN.{length}
 use lib.Dec.{eqb, leb}
 use borrow.Author.Tests.{eqb-true, leb-true}
 use Rattle.wire.specs.Limits.{most_gates, most_inputs, most_outputs, most_work}
-use Rattle.refusal.specs.Answers.{Answer, result, check}
-use Rattle.refusal.specs.Checks.{lowest}
+use Rattle.std.specs.Prelude.{Result, Ok}
+use Rattle.refusal.specs.Answers.{Answer, result, check, answer_of}
+use Rattle.refusal.specs.declared.causes.Refusal.{Refusal}
 use Rattle.contents.specs.Contents.{table_fits, entries_fit, entry_length, body_of}
 use Rattle.contents.specs.Arity.{inputs_of, outputs_of, arity_fits}
-use Rattle.contents.specs.declared.reader.ContentsRead.{ContentsRead}
-use Rattle.contents.specs.declared.reader.ContentsRead.TheVariants.{Good}
-use Rattle.contents.specs.Steps.{read_contents, contents_read, Laid}
+use Rattle.contents.specs.Steps.{read_contents, Laid}
 use Rattle.refusal.specs.declared.causes.Refusal.TheVariants as cause
 use Rattle.refusal.proofs.AnswerLaws.{checked, checked_next, same_result}
 use Rattle.refusal.proofs.CheckLaws.{both_first, both_second}
 use Rattle.contents.proofs.ContentsLaws.{body_length, laid, contents_next}
-use Rattle.gate_bytes.specs.GateBytes.{gate_fits}
 use Rattle.circuit.specs.declared.reader.CircuitHead.{CircuitHead}
 use Rattle.circuit.specs.Circuits.{head_lines, most_lines, InRange}
 use Rattle.circuit.specs.Format.{tags, head_length}
@@ -92,7 +90,7 @@ module _ (f : List ℕ) where
   head_checks = check (lengths_fit f) cause.BodyLength (check (ranges_fit f) cause.Range (result (head_in f)))
 
   -- where these found nothing, reading the head goes on with them
-  pub head_checks_lem : {r : ContentsRead} → contents_read r ≡ read_contents tags f → r ≡ Good → read_head f ≡ head_checks
+  pub head_checks_lem : {r : Result (Unit {0}) Refusal} → answer_of r ≡ read_contents tags f → r ≡ Ok tt → read_head f ≡ head_checks
   unfolding read_head
   head_checks_lem e g = contents_next tags f e g head_checks
 
@@ -142,10 +140,3 @@ module _ (f : List ℕ) where
     -- there are no more lines than a circuit may have
     pub lines_most : head_lines h ≤ most_lines
     lines_most = omega (arith, a.ranged.inputs_most, a.ranged.outputs_most, a.ranged.work_most)
-
-    -- the lowest gate that the reader of the gates finds is the file's
-    pub gates_lowest : {n : ℕ} {gates : List ℕ} → n ≡ head_lines h → gates ≡ body_of f 1
-        → lowest (gate_fits n gates) (length gates / 8) ≡ lowest (gate_fits (head_lines h) (body_of f 1)) h.gates
-    gates_lowest e g =
-        ap₂ (λ (m : ℕ) (b : List ℕ). lowest (gate_fits m b) (length b / 8)) e g
-        ∙ ap (lowest (gate_fits (head_lines h) (body_of f 1))) gates_counted

@@ -1,7 +1,7 @@
 -- Reading a circuit file, check by check in the order of 01's table.
 use Rattle.std.specs.Prelude.{ℕ, ◌/◌, ◌%◌, Bool, ◌&&◌, List, eqb, leb}
 use Rattle.wire.specs.Limits.{most_gates, most_work}
-use Rattle.refusal.specs.Answers.{Answer, result, refuse, check, check_each, and_then}
+use Rattle.refusal.specs.Answers.{Answer, result, check, check_each, and_then}
 use Rattle.wire.specs.Bits.{bits_fit}
 use Rattle.wire.specs.Bytes.{at16}
 use Rattle.contents.specs.Contents.{table_fits, entries_fit, entry_length, body_of}
@@ -9,8 +9,6 @@ use Rattle.contents.specs.Arity.{inputs_of, outputs_of, arity_fits}
 use Rattle.refusal.specs.declared.causes.Refusal.TheVariants as cause
 use Rattle.gate_bytes.specs.GateBytes.{gate_fits}
 use Rattle.circuit.specs.declared.reader.CircuitHead.{CircuitHead}
-use Rattle.circuit.specs.declared.reader.CircuitRead.{CircuitRead}
-use Rattle.circuit.specs.declared.reader.CircuitRead.TheVariants.{Good, Refused}
 use Rattle.circuit.specs.Circuits.{Circuit, line_count, head_lines, gates_in}
 use Rattle.circuit.specs.Format.{tags, head_length}
 
@@ -61,8 +59,3 @@ read_with_lines f lines =
     and_then (read_circuit f) (λ c.
     check (bits_fit (line_count c) lines) cause.LineBytes  -- 13
     (result c))
-
--- the reader's answer in 01's terms: inputs, outputs, work lines and gates, or a number and a place
-abbrev pub circuit_read : CircuitRead → Answer CircuitHead
-circuit_read (Good head) = result head
-circuit_read (Refused why) = refuse why

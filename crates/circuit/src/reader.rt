@@ -1,21 +1,19 @@
 // The reader of circuit files: causes 1 to 4 for the head, 12 for the gates, and 13 for bytes that
 // come with a file, one for each line.
 ghost use Rattle.std.specs.Prelude.{◌≡◌, ◌/◌, ◌≤◌, length};
-ghost use Rattle.refusal.specs.Answers.{map_answer};
-ghost use Rattle.refusal.specs.Checks.{lowest};
+ghost use Rattle.refusal.specs.Answers.{map_answer, answer_of, checked_each};
+ghost use Rattle.gate_bytes.specs.GateBytes.{gate_fits};
 ghost use Rattle.contents.specs.Contents.{entry_length, body_of};
 ghost use Rattle.contents.specs.Steps.{Laid};
-ghost use Rattle.gate_bytes.specs.GateBytes.{gate_fits};
 ghost use Rattle.circuit.specs.Circuits.{head_of, head_lines, most_lines};
 ghost use Rattle.circuit.specs.Format.{head_length};
-ghost use Rattle.circuit.specs.Reading.{lengths_fit, ranges_fit, head_in, read_head, read_circuit, read_with_lines, circuit_read};
+ghost use Rattle.circuit.specs.Reading.{lengths_fit, ranges_fit, head_in, read_head, read_circuit, read_with_lines};
 
 use crate::layout::HEAD_LENGTH;
 use contents::arity::arity_fits;
-use contents::reader::{ContentsRead, body, entry_length, read_contents};
+use contents::reader::{body, entry_length, read_contents};
 use gate_bytes::reader::{GateRead, read_gate};
 use refusal::causes::Refusal;
-use refusal::checks::both;
 use wire::bits::bits_fit;
 use wire::limits::{MOST_GATES, MOST_WORK};
 use wire::numbers::get16;
@@ -27,13 +25,6 @@ pub struct CircuitHead {
     pub outputs: usize,
     pub work: usize,
     pub gates: usize,
-}
-
-// What reading a circuit file gives.
-#[derive(Clone, Copy)]
-pub enum CircuitRead {
-    Good(CircuitHead),
-    Refused(Refusal),
 }
 
 // How many lines a circuit has, where its numbers are in range.
@@ -51,7 +42,7 @@ fn lengths_fit(file: &[u8]) -> bool
 {
     let head = entry_length(file, 0) as usize == HEAD_LENGTH;
     let gates = entry_length(file, 1) as usize;
-    both(head, both(gates % 8 == 0, gates / 8 <= MOST_GATES))
+    head && gates % 8 == 0 && gates / 8 <= MOST_GATES
 }
 
 // Whether the numbers of inputs, outputs and work lines are in range.
@@ -60,7 +51,7 @@ fn ranges_fit(file: &[u8]) -> bool
     ensures { result ≡ ranges_fit file.now }
 {
     let head = body(file, 0);
-    both(arity_fits(head), get16(head, 4) as u64 <= MOST_WORK)
+    arity_fits(head) && get16(head, 4) as u64 <= MOST_WORK
 }
 
 // The numbers that the head and the length of the gate body give.
@@ -78,20 +69,17 @@ fn head_in(file: &[u8]) -> CircuitHead
 }
 
 // Reads the table of contents and the head, and does not look at the gates.
-pub fn read_head(file: &[u8]) -> CircuitRead
-    ensures { circuit_read result ≡ read_head file.now }
+pub fn read_head(file: &[u8]) -> Result<CircuitHead, Refusal>
+    ensures { answer_of result ≡ read_head file.now }
 {
-    let contents = read_contents(file, &[17, 18]);
-    if let ContentsRead::Refused(why) = contents {
-        return CircuitRead::Refused(why);
-    }
+    read_contents(file, &[17, 18])?;
     if !lengths_fit(file) {
-        return CircuitRead::Refused(Refusal::BodyLength);
+        return Err(Refusal::BodyLength);
     }
     if !ranges_fit(file) {
-        return CircuitRead::Refused(Refusal::Range);
+        return Err(Refusal::Range);
     }
-    CircuitRead::Good(head_in(file))
+    Ok(head_in(file))
 }
 
 // The gate body of a file.
@@ -102,47 +90,35 @@ pub fn gate_body(file: &[u8]) -> &[u8]
     body(file, 1)
 }
 
-// The lowest index of a gate that is not in order on so many lines, or the number of gates.
-fn read_gates(gates: &[u8], lines: usize) -> usize
-    ensures { result ≡ lowest (gate_fits lines gates.now) (length gates.now / 8) }
+// Reads the gates of a gate body; the lowest one that is not in order on so many lines is refused.
+fn read_gates(gates: &[u8], lines: usize) -> Result<(), Refusal>
+    ensures { answer_of result ≡ checked_each (gate_fits lines gates.now) (length gates.now / 8) Refusal.Gate }
 {
-    let mut i = 0;
-    while i < gates.len() / 8 {
-        let gate = read_gate(gates, i, lines);
-        if let GateRead::Bad(at) = gate {
-            return at;
+    for i in 0..gates.len() / 8 {
+        if let GateRead::Bad(at) = read_gate(gates, i, lines) {
+            return Err(Refusal::Gate(at as u64));
         }
-        i += 1;
     }
-    i
+    Ok(())
 }
 
 // Reads a circuit file: how many inputs, outputs, work lines and gates it has, or the first cause
 // to refuse it.
-pub fn read_circuit(file: &[u8]) -> CircuitRead
-    ensures { circuit_read result ≡ map_answer head_of (read_circuit file.now) }
+pub fn read_circuit(file: &[u8]) -> Result<CircuitHead, Refusal>
+    ensures { answer_of result ≡ map_answer head_of (read_circuit file.now) }
 {
-    let answer = read_head(file);
-    let CircuitRead::Good(head) = answer else {
-        return answer;
-    };
-    let gate = read_gates(gate_body(file), line_count(head));
-    if gate != head.gates {
-        return CircuitRead::Refused(Refusal::Gate(gate as u64));
-    }
-    answer
+    let head = read_head(file)?;
+    read_gates(gate_body(file), line_count(head))?;
+    Ok(head)
 }
 
 // Reads a circuit file that comes with a byte, 0 or 1, for each of its lines.
-pub fn read_with_lines(file: &[u8], lines: &[u8]) -> CircuitRead
-    ensures { circuit_read result ≡ map_answer head_of (read_with_lines file.now lines.now) }
+pub fn read_with_lines(file: &[u8], lines: &[u8]) -> Result<CircuitHead, Refusal>
+    ensures { answer_of result ≡ map_answer head_of (read_with_lines file.now lines.now) }
 {
-    let answer = read_circuit(file);
-    let CircuitRead::Good(head) = answer else {
-        return answer;
-    };
+    let head = read_circuit(file)?;
     if !bits_fit(lines, line_count(head)) {
-        return CircuitRead::Refused(Refusal::LineBytes);
+        return Err(Refusal::LineBytes);
     }
-    answer
+    Ok(head)
 }

@@ -2,20 +2,22 @@
 use Prim.Native.Nat.{ℕ, ◌/◌, ◌<◌, ◌≤◌}
 use native.Mathlib.Omega.{arith}
 use mathlib.Core.Path.{◌≡◌, refl, sym, ap, ap₂, ◌∙◌}
-use mathlib.Core.Logic.{◌≢◌}
 use mathlib.Core.Bool.{true, false, ◌&&◌}
 use mathlib.Core.List.{List, ◌++◌}
 use lib.ListN.{length, get_or, replicate, length-append}
-use lib.Dec.{leb}
+use lib.Dec.{leb, eqb}
 use lib.Seq.{sets}
 use borrow.Author.Tests.{leb-true, leb-false}
 use Rattle.wire.specs.Limits.{most_gates, most_size, most_work}
-use Rattle.refusal.specs.Answers.{Answer, result, refuse}
+use Rattle.std.specs.Prelude.{Result, Ok, Err}
+use Rattle.refusal.specs.Answers.{Answer, result, refuse, check, checked_each, answer_of, number_of, place_of}
+use Rattle.refusal.specs.declared.causes.Refusal.{Refusal}
+use Rattle.refusal.proofs.AnswerLaws.{each_test, each_refused, Never, never_result, never_check}
 use Rattle.refusal.specs.Checks.{lowest}
 use Rattle.contents.specs.Contents.{body_of}
 use Rattle.contents.specs.Arity.{inputs_of}
 use Rattle.refusal.specs.declared.causes.Refusal.TheVariants as cause
-use Rattle.refusal.proofs.CheckLaws.{by_test, both_first, both_second, lowest_same}
+use Rattle.refusal.proofs.CheckLaws.{by_test, both_first, both_second, lowest_same, all_below_lem}
 use Rattle.circuit.specs.declared.reader.CircuitHead.{CircuitHead}
 use Rattle.circuit.specs.Circuits.{Circuit, head_of, InRange}
 use Rattle.circuit.specs.Format.{file_length, opening_bytes}
@@ -26,7 +28,7 @@ use Rattle.node.specs.declared.nodes.Node.{Node}
 use Rattle.program.specs.declared.reader.Head.{Head}
 use Rattle.node.specs.Exprs.{Expr, ZERO, size}
 use Rattle.node.specs.Nodes.{nodes_in}
-use Rattle.program.specs.Programs.{Program}
+use Rattle.program.specs.Programs.{Program, output_tree}
 use Rattle.program.specs.Reading.{output_at, program_of}
 use Rattle.node.specs.Trees.{trees}
 use Rattle.program.proofs.AcceptedLaws.{Accepted, accepted, inputs_is, nodes_length, outputs_length, same_nodes}
@@ -44,7 +46,7 @@ use Rattle.sizing.specs.Sizing.{node_sizes}
 use Rattle.sizing.specs.Steps.{entry_fits}
 use Rattle.program.proofs.BodyLaws.{body_outputs, names_node, named_tree}
 use Rattle.compile.proofs.BodyLaws.{trees_same, countable, lines_counted, gates_counted, fitting}
-use Rattle.compilation.proofs.ProgramLaws.{size_fits, AllSmall, all_small, too_large, grant_large, lines_short, gates_many, area_short, fits}
+use Rattle.compilation.proofs.ProgramLaws.{size_fits, AllSmall, grant_large, lines_short, gates_many, area_short, fits}
 use Rattle.sizing.proofs.SizeLaws.{sizes_length, sizes_lowest}
 
 -- the answer a and the area at exit are those of compiling the program
@@ -76,32 +78,42 @@ module _ {f : List ℕ} {h : Head} {sizes : List ℕ} (l : Listed f h sizes) whe
       )
 
   -- the first output whose entry is too large is the first that is too large
-  lowest_is : {r : ℕ} → r ≡ lowest (entry_fits sizes (body_of f 2)) (length (body_of f 2) / 2) → r ≡ lowest (size_fits (program_of f)) (length (program_of f).outputs)
-  lowest_is e =
+  lowest_is : lowest (entry_fits sizes (body_of f 2)) (length (body_of f 2) / 2) ≡ lowest (size_fits (program_of f)) (length (program_of f).outputs)
+  lowest_is =
       let bodies : ℕ = length (body_of f 2) / 2 in
-      e
-      ∙ ap (λ (s : List ℕ). lowest (entry_fits s (body_of f 2)) bodies) (l.listed ∙ ap (λ (ns : List Node). node_sizes ns ++ l.later) (sym (same_nodes f accepts)))
+      ap (λ (s : List ℕ). lowest (entry_fits s (body_of f 2)) bodies) (l.listed ∙ ap (λ (ns : List Node). node_sizes ns ++ l.later) (sym (same_nodes f accepts)))
       ∙ sizes_lowest (body_of f 1) (body_of f 2) l.later bodies (names_node f accepts)
       ∙ lowest_same (λ (j : ℕ). leb (size (get_or (trees (nodes_in (body_of f 1))) (output_at (body_of f 2) j) ZERO)) most_size) (size_fits (program_of f)) bodies (λ k q. ap (λ (t : Expr). leb (size t) most_size) (named_tree f accepts k q))
       ∙ ap (lowest (size_fits (program_of f))) (body_outputs f accepts)
 
-  module _ (grant : ℕ) (area : List ℕ) {r : ℕ} (e : r ≡ lowest (entry_fits sizes (body_of f 2)) (length (body_of f 2) / 2)) where
-    pub size_refused : r ≢ h.outputs → Compiles (program_of f) grant area (refuse (cause.Size r)) area
-    size_refused q =
-        let wrong : lowest (size_fits (program_of f)) (length (program_of f).outputs) ≢ length (program_of f).outputs = λ u. q (lowest_is e ∙ u ∙ sym outputs_are) in
-        outcome_refused area 8 r (omega arith) (too_large (program_of f) grant (length area) wrong ∙ ap (λ (k : ℕ). refuse (cause.Size k)) (sym (lowest_is e)))
+  -- its sizes were checked
+  module _ (grant : ℕ) (area : List ℕ) {bs ns : List ℕ} (nodes : ns ≡ body_of f 1) (outputs : bs ≡ body_of f 2)
+      (r : Result (Unit {0}) Refusal) (e : answer_of r ≡ checked_each (entry_fits sizes bs) (length bs / 2) cause.Size) where
+    check_is : answer_of r ≡ checked_each (size_fits (program_of f)) (length (program_of f).outputs) cause.Size
+    check_is =
+        (rw outputs at e)
+        ∙ ap₂ (λ (l m : ℕ). check (eqb l m) (cause.Size l) (result tt)) lowest_is (body_outputs f accepts)
 
-    module _ (same : r ≡ h.outputs) where
+    pub size_refused : {why : Refusal} → r ≡ Err why → Compiles (program_of f) grant area (refuse why) area
+    unfolding compile_program
+    size_refused {why} g =
+        let never : Never 11 (checked_each (size_fits (program_of f)) (length (program_of f).outputs) cause.Size) = never_check 11 _ (cause.Size _) (result tt) (omega arith) (never_result 11 tt) in
+        outcome_refused area (number_of why) (place_of why) (never _ _ (sym (sym (ap answer_of g) ∙ check_is))) (each_refused (size_fits (program_of f)) _ cause.Size check_is _ g)
+
+    module _ (passed : r ≡ Ok tt) where
       small : AllSmall (program_of f)
-      small = all_small (program_of f) (sym (lowest_is e) ∙ same ∙ outputs_are)
+      small k h = leb-true (size (output_tree (program_of f) k)) most_size (all_below_lem (size_fits (program_of f)) (length (program_of f).outputs) (each_test (size_fits (program_of f)) _ cause.Size check_is passed) k h)
 
-      pub shares_countable : AllCountable (body_of f 1) (body_of f 2)
-      shares_countable = countable f accepts small
+      pub shares_countable : AllCountable ns bs
+      shares_countable = rw (nodes, outputs) (countable f accepts small)
 
       pub grant_refused : most_work < grant → Compiles (program_of f) grant area (refuse cause.Grant) area
       grant_refused q = outcome_refused area 9 0 (omega arith) (grant_large (program_of f) grant (length area) small q)
 
-      module _ (allowed : grant ≤ most_work) {needs : Needs} (n : Needed (trees_in (body_of f 1) (body_of f 2)) needs) where
+      module _ (allowed : grant ≤ most_work) {needs : Needs} (counted : Needed (trees_in ns bs) needs) where
+        n : Needed (trees_in (body_of f 1) (body_of f 2)) needs
+        n = rw (nodes, outputs) at counted
+
         abbrev c : Circuit
         c = program_circuit (program_of f)
 
@@ -144,9 +156,10 @@ module _ {f : List ℕ} {h : Head} {sizes : List ℕ} (l : Listed f h sizes) whe
             room = omega (arith, gates_are, leb-true (file_length needs.gates) (length area) (both_second (leb needs.gates most_gates) (leb (file_length needs.gates) (length area)) q))
 
             -- the gates fit under any head with these inputs whose numbers are in range
-            pub head_fits : (w g : ℕ) → w ≤ most_work → g ≤ most_gates → InRange (record { inputs = h.inputs; outputs = h.outputs; work = w; gates = g }) × CircuitRoom (body_of f 1) (body_of f 2) h.inputs area
+            pub head_fits : (w g : ℕ) → w ≤ most_work → g ≤ most_gates → InRange (record { inputs = h.inputs; outputs = h.outputs; work = w; gates = g }) × CircuitRoom ns bs h.inputs area
             head_fits w g few-lines few =
-                fitting f accepts _ area inputs_are (omega (arith, outputs_are, outputs_length f accepts, accepts.outputs_some)) (omega (arith, outputs_are, outputs_length f accepts, accepts.outputs_most)) few-lines few (omega (arith, work_granted)) (omega (arith, gates_are, few_gates)) room
+                rw (nodes, outputs)
+                (fitting f accepts _ area inputs_are (omega (arith, outputs_are, outputs_length f accepts, accepts.outputs_some)) (omega (arith, outputs_are, outputs_length f accepts, accepts.outputs_most)) few-lines few (omega (arith, work_granted)) (omega (arith, gates_are, few_gates)) room)
 
             head_is : ◌≡◌ {A = CircuitHead} (record { inputs = h.inputs; outputs = h.outputs; work = needs.lines; gates = needs.gates }) (head_of c)
             unfolding program_circuit
@@ -155,10 +168,10 @@ module _ {f : List ℕ} {h : Head} {sizes : List ℕ} (l : Listed f h sizes) whe
                 (ap₂ (λ (g w : ℕ). record { gates = g; lines = w }) gates_are (lines_counted f accepts n))
 
             pub circuit_written : {after : List ℕ}
-                → after ≡ put_gates (sets area 0 (opening_bytes (record { inputs = h.inputs; outputs = h.outputs; work = needs.lines; gates = needs.gates }))) 0 (circuit_gates h.inputs (trees_in (body_of f 1) (body_of f 2)))
+                → after ≡ put_gates (sets area 0 (opening_bytes (record { inputs = h.inputs; outputs = h.outputs; work = needs.lines; gates = needs.gates }))) 0 (circuit_gates h.inputs (trees_in ns bs))
                 → Compiles (program_of f) grant area (result (record { inputs = h.inputs; outputs = h.outputs; work = needs.lines; gates = needs.gates })) after
             unfolding program_circuit
             circuit_written {after} w =
-                let gates : circuit_gates h.inputs (trees_in (body_of f 1) (body_of f 2)) ≡ c.gates = ap₂ circuit_gates (ap (λ (t : Head). t.inputs) l.numbers) (trees_same f accepts) in
+                let gates : circuit_gates h.inputs (trees_in ns bs) ≡ c.gates = rw (nodes, outputs) (ap₂ circuit_gates (ap (λ (t : Head). t.inputs) l.numbers) (trees_same f accepts)) in
                 let o = outcome_written area c (fits (program_of f) grant (length area) small allowed work_granted (omega (arith, gates_are, few_gates)) room) room refl (w ∙ ap₂ (λ (t : CircuitHead) (gs : List Gate). put_gates (sets area 0 (opening_bytes t)) 0 gs) head_is gates) in
                 record { answer = ap result head_is ∙ o.answer; area_is = o.area_is }

@@ -1,61 +1,67 @@
 // The gates of a tree, built from its node's operands.
 ghost use Rattle.program.specs.Tables.{tree_in};
 ghost use Rattle.construction.specs.Steps.{built_count};
-ghost use Rattle.progress.specs.Progress.{tree, Wrote};
+ghost use Rattle.progress.specs.Progress.{Wrote};
 ghost use Rattle.construct.specs.Writing.{Room};
 
-use controls::control_of;
+use appending::writer::GateWriter;
+use controls::input_of;
 use gate::gates::Gate;
 use node::nodes::{Node, node_at};
-use pool::{LINE_NUMBERS, LinePool};
-use progress::{clean_up, pack, pool_in, write_and, write_next};
+use pool::LinePool;
+use progress::append_and;
 
-// XORs node i into the line target, where so many gates are written; how far writing has come then.
-// Calls itself on the operands, whose indices are lower, but not on an AND's operand that is an input:
-// its line is the control.
+// XORs node i into the line target; the pool then. Calls itself on the operands, whose indices are
+// lower, but not on an AND's operand that is an input: its line is the control.
 pub fn build(
     nodes: &[u8],
     i: usize,
     target: u16,
-    gates: usize,
     pool: LinePool,
-    area: &mut [u8],
-) -> usize
-    requires { Room nodes.now i target gates pool.free (built_count 1 (tree_in nodes.now i)) area.old }
-    ensures { Wrote (tree (tree_in nodes.now i) target) gates pool.free result area.old area.new }
+    writer: &mut GateWriter<'_>,
+) -> LinePool
+    requires { Room nodes.now i target pool.free (built_count 1 (tree_in nodes.now i)) writer.old }
+    ensures { Wrote (tree_in nodes.now i) target pool.free result.free writer.old writer.new }
 {
-    let node = node_at(nodes, i);
-    match node {
-        Node::Zero => pack(gates, pool),
-        Node::One => write_next(area, gates, pool, Gate::Not { target }),
-        Node::Input(j) => write_next(area, gates, pool, Gate::Cnot { control: j, target }),
+    match node_at(nodes, i) {
+        Node::Zero => pool,
+        Node::One => {
+            writer.append(Gate::Not { target });
+            pool
+        }
+        Node::Input(j) => {
+            writer.append(Gate::Cnot { control: j, target });
+            pool
+        }
         Node::Not(a) => {
-            write_next(area, gates, pool, Gate::Not { target });
-            build(nodes, a as usize, target, gates + 1, pool, area)
+            writer.append(Gate::Not { target });
+            build(nodes, a as usize, target, pool, writer)
         }
         Node::Xor(a, b) => {
-            let p = build(nodes, a as usize, target, gates, pool, area);
-            let done = p / LINE_NUMBERS;
-            build(nodes, b as usize, target, done, pool_in(p), area)
+            let next = build(nodes, a as usize, target, pool, writer);
+            build(nodes, b as usize, target, next, writer)
         }
         Node::And(marked, a, b) => {
-            let first = control_of(nodes, a as usize, pool);
-            let mut p = pack(gates, pool);
-            // An input's line is below the target; only what has to be built has the free one.
-            if first as usize == pool.free {
-                p = build(nodes, a as usize, first, gates, pool.take(), area);
+            let from = writer.count;
+            // The control of an operand that is built is the line that is free before it.
+            let mut next = pool;
+            let mut first = next.free as u16;
+            match input_of(nodes, a as usize) {
+                Some(line) => first = line,
+                None => next = build(nodes, a as usize, first, next.take(), writer),
             }
-            let done = p / LINE_NUMBERS;
-            let next = pool_in(p);
-            let second = control_of(nodes, b as usize, next);
-            if second as usize == next.free {
-                p = build(nodes, b as usize, second, done, next.take(), area);
+            let mut second = next.free as u16;
+            match input_of(nodes, b as usize) {
+                Some(line) => second = line,
+                None => next = build(nodes, b as usize, second, next.take(), writer),
             }
-            p = write_and(area, p / LINE_NUMBERS, pool_in(p), first, second, target);
+            let to = writer.count;
+            append_and(writer, first, second, target);
             if marked {
-                return clean_up(area, gates, p, pool, target);
+                writer.append_reversed(from, to, target);
+                next = next.release(pool.free);
             }
-            p
+            next
         }
     }
 }

@@ -1,5 +1,5 @@
 // The code of the construction (the crate construction has its definitions): the gates of a tree,
-// written into a lent circuit area.
+// appended to those of a circuit.
 #![tactic(auto)]
 
 pub mod builder;

@@ -10,13 +10,12 @@ use lib.Dec.{eqb, leb}
 use borrow.Author.Tests.{eqb-true, leb-true, leb-false, eq-eqb, ne_eqb}
 use Rattle.wire.specs.Bytes.{at16}
 use Rattle.contents.specs.Contents.{table_length, table_fits, entry_tag, entry_start, entry_length, body_of, entries_from, entries_fit}
-use Rattle.refusal.specs.Answers.{Answer, result, refuse, check}
+use Rattle.std.specs.Prelude.{Result, Ok, Err}
+use Rattle.refusal.specs.Answers.{Answer, result, refuse, check, answer_of}
 use Rattle.refusal.specs.declared.causes.Refusal.{Refusal}
 use Rattle.refusal.specs.declared.causes.Refusal.TheVariants as cause
 use Rattle.refusal.proofs.AnswerLaws.{checked, checked_next, same_refusal}
-use Rattle.contents.specs.declared.reader.ContentsRead.{ContentsRead}
-use Rattle.contents.specs.declared.reader.ContentsRead.TheVariants.{Good, Refused}
-use Rattle.contents.specs.Steps.{read_contents, contents_read, Laid}
+use Rattle.contents.specs.Steps.{read_contents, Laid}
 use Rattle.refusal.proofs.CheckLaws.{both_first, both_second, by_test}
 use Rattle.wire.proofs.ListLaws.{drop_next}
 
@@ -134,11 +133,11 @@ module _ (tags f : List ℕ) where
   abbrev pub opening : {A : Type 0} → Answer A → Answer A
   opening next = check table cause.Table (check entries cause.Contents next)
 
-  module _ {r : ContentsRead} (e : contents_read r ≡ read_contents tags f) where
+  module _ {r : Result (Unit {0}) Refusal} (e : answer_of r ≡ read_contents tags f) where
     -- where they found nothing, both tests held
-    module _ (g : r ≡ Good) where
+    module _ (g : r ≡ Ok tt) where
       passed : read_contents tags f ≡ result tt
-      passed = sym e ∙ ap contents_read g
+      passed = sym e ∙ ap answer_of g
 
       pub contents_table : table ≡ true
       unfolding read_contents
@@ -157,10 +156,10 @@ module _ (tags f : List ℕ) where
       contents_next next = rw (contents_table, contents_entries) refl
 
     -- where they refused, so does the reader
-    pub contents_refused : {A : Type 0} {why : Refusal} (next : Answer A) → r ≡ Refused why → opening next ≡ refuse why
+    pub contents_refused : {A : Type 0} {why : Refusal} (next : Answer A) → r ≡ Err why → opening next ≡ refuse why
     unfolding read_contents
     contents_refused {A} {why} next g =
-        let said : refuse why ≡ opening (result tt) = sym (ap contents_read g) ∙ e in
+        let said : refuse why ≡ opening (result tt) = sym (ap answer_of g) ∙ e in
         by_test table
         (λ t. by_test entries
         (λ s. let z : refuse why ≡ result tt = simp (t, s) at said in let o : ◌≡◌ {A = ℕ} 0 1 = cc in absurd (omega arith))

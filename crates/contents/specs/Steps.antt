@@ -1,9 +1,7 @@
 -- What the steps that read a table of contents answer, and what the readers of bodies ask of their callers.
 use Rattle.std.specs.Prelude.{ℕ, ◌+◌, ◌≤◌, ◌<◌, List, [], ◌∷◌, length}
-use Rattle.refusal.specs.Answers.{Answer, result, refuse, check}
+use Rattle.refusal.specs.Answers.{Answer, result, check}
 use Rattle.refusal.specs.declared.causes.Refusal.TheVariants as cause
-use Rattle.contents.specs.declared.reader.ContentsRead.{ContentsRead}
-use Rattle.contents.specs.declared.reader.ContentsRead.TheVariants.{Good, Refused}
 use Rattle.contents.specs.Contents.{table_length, entry_start, entry_length, table_fits, entries_fit}
 
 -- the first checks of a file whose bodies have these tags
@@ -12,11 +10,6 @@ read_contents tags f =
     check (table_fits (length tags) f) cause.Table  -- 1
     (check (entries_fit tags f) cause.Contents  -- 2
     (result tt))
-
--- their answer in 01's terms: nothing, or a number and a place
-abbrev pub contents_read : ContentsRead → Answer (Unit {0})
-contents_read Good = result tt
-contents_read (Refused why) = refuse why
 
 -- a file of k bodies, each of which lies within it, behind the table
 pub record Laid (k : ℕ) (f : List ℕ) : Type 0 where

@@ -2,7 +2,6 @@
 ghost use Rattle.std.specs.Prelude.{◌≡◌, ◌≤◌, length};
 ghost use Rattle.contents.specs.Arity.{arity_fits};
 
-use refusal::checks::both;
 use wire::limits::{MOST_INPUTS, MOST_OUTPUTS};
 use wire::numbers::get16;
 
@@ -12,8 +11,5 @@ pub fn arity_fits(head: &[u8]) -> bool
     ensures { result ≡ arity_fits head.now }
 {
     let outputs = get16(head, 2);
-    both(
-        get16(head, 0) <= MOST_INPUTS,
-        both(1 <= outputs, outputs <= MOST_OUTPUTS),
-    )
+    get16(head, 0) <= MOST_INPUTS && 1 <= outputs && outputs <= MOST_OUTPUTS
 }

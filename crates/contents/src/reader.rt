@@ -1,29 +1,17 @@
 // Reading the table of contents that opens a file, for files of any number of bodies.
 ghost use Rattle.std.specs.Prelude.{◌≡◌, ◌+◌, ◌≤◌, length};
+ghost use Rattle.refusal.specs.Answers.{answer_of};
 ghost use Rattle.contents.specs.Contents.{table_length, table_fits, entries_fit, entry_tag, entry_start, entry_length, body_of};
-ghost use Rattle.contents.specs.Steps.{read_contents, contents_read};
+ghost use Rattle.contents.specs.Steps.{read_contents};
 
 use refusal::causes::Refusal;
 use wire::numbers::{get16, get32};
-
-// What the checks of a table of contents give.
-#[derive(Clone, Copy)]
-pub enum ContentsRead {
-    Good,
-    Refused(Refusal),
-}
 
 // Whether the table is there and has count entries.
 fn table_fits(file: &[u8], count: usize) -> bool
     ensures { result ≡ table_fits count file.now }
 {
-    if file.len() < 2 {
-        return false;
-    }
-    if get16(file, 0) as usize != count {
-        return false;
-    }
-    2 + 10 * count <= file.len()
+    2 <= file.len() && get16(file, 0) as usize == count && 2 + 10 * count <= file.len()
 }
 
 // Where the body of entry i starts.
@@ -57,31 +45,26 @@ fn entries_fit(file: &[u8], tags: &[u16]) -> bool
     ensures { result ≡ entries_fit tags.now file.now }
 {
     let mut start = 2 + 10 * (tags.len() as u64);
-    let mut i = 0;
-    while i < tags.len() {
-        if entry_tag(file, i) != tags[i] {
+    for (i, tag) in tags.iter().enumerate() {
+        if entry_tag(file, i) != *tag || entry_start(file, i) as u64 != start {
             return false;
         }
-        if entry_start(file, i) as u64 != start {
-            return false;
-        }
-        start = start + entry_length(file, i) as u64;
-        i += 1;
+        start += entry_length(file, i) as u64;
     }
     start == file.len() as u64
 }
 
 // The first checks of every file, whose bodies have these tags: causes 1 and 2.
-pub fn read_contents(file: &[u8], tags: &[u16]) -> ContentsRead
-    ensures { contents_read result ≡ read_contents tags.now file.now }
+pub fn read_contents(file: &[u8], tags: &[u16]) -> Result<(), Refusal>
+    ensures { answer_of result ≡ read_contents tags.now file.now }
 {
     if !table_fits(file, tags.len()) {
-        return ContentsRead::Refused(Refusal::Table);
+        return Err(Refusal::Table);
     }
     if !entries_fit(file, tags) {
-        return ContentsRead::Refused(Refusal::Contents);
+        return Err(Refusal::Contents);
     }
-    ContentsRead::Good
+    Ok(())
 }
 
 // The body that entry i names: its own part of the file.

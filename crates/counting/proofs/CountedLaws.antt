@@ -23,7 +23,9 @@ use Rattle.construction.proofs.AndLaws.{held_most, lines_more}
 use Rattle.construction.proofs.CountLaws.{lines_few, lines_below_size, and_one}
 use Rattle.construction.proofs.PoolLaws.{tree_lines_lem, tree_held_lem, lines_needed_lem}
 use Rattle.counting.specs.declared.Needs.{Needs}
-use Rattle.controls.specs.Controls.{is_built}
+use Rattle.std.specs.Prelude as rust
+use Rattle.std.specs.Prelude.{Some, None, is_some}
+use Rattle.controls.specs.Controls.{found}
 use Rattle.counter.specs.Counter.{one_gate, packed_counts, gates_in, most_in, used_in, once_more, most_passed, OperandsMade}
 use Rattle.counter.proofs.CounterLaws.{packed_gates, packed_most, packed_used, most_low, used_low, more_gates, same_most, same_used}
 use Rattle.counting.specs.Counters.{weighed, Countable, CountRoom, Counted, Needed}
@@ -184,47 +186,48 @@ pub record Made (e : Expr) (s p : ℕ) : Type 0 where
   pub used_are : used_in p ≡ used_in s + operand_lines (input_of e) (held e)
   pub most_are : most_in p ≡ max (most_in s) (used_in s + operand_lines (input_of e) (most e))
 
-no_operand : (q : Option ℕ) (k l : ℕ) → is_built q ≡ false → (operand_count q k ≡ 0) × (operand_lines q l ≡ 0)
+no_operand : (o : rust.Option ℕ) (k l : ℕ) → is_some o ≡ true → (operand_count (found o) k ≡ 0) × (operand_lines (found o) l ≡ 0)
 unfolding operand_count operand_lines
-no_operand (some j) k l h = (refl, refl)
-no_operand none k l h = absurd (false≢true (sym h))
+no_operand (Some j) k l h = (refl, refl)
+no_operand None k l h = absurd (false≢true h)
 
-an_operand : (q : Option ℕ) (k l : ℕ) → is_built q ≡ true → (operand_count q k ≡ k) × (operand_lines q l ≡ 1 + l)
+an_operand : (o : rust.Option ℕ) (k l : ℕ) → is_some o ≡ false → (operand_count (found o) k ≡ k) × (operand_lines (found o) l ≡ 1 + l)
 unfolding operand_count operand_lines
-an_operand (some j) k l h = absurd (false≢true h)
-an_operand none k l h = (refl, refl)
+an_operand (Some j) k l h = absurd (false≢true (sym h))
+an_operand None k l h = (refl, refl)
 
--- an input adds nothing
-pub made_input : {e : Expr} {s p : ℕ} → used_in s ≤ most_in s → is_built (input_of e) ≡ false → p ≡ s → Made e s p
-made_input {e} {s} busy b same =
-    let no = no_operand (input_of e) (weighed 2 e) (held e) b in
-    let none = no_operand (input_of e) (weighed 2 e) (most e) b in
-    rw same
-    (record {
-      gates_shown_lem = omega (arith, no.0);
-      gates_least = omega arith;
-      gates_most = omega arith;
-      used_are = omega (arith, no.1);
-      most_are = omega (arith, none.1, busy);
-    })
+module _ {e : Expr} {s p : ℕ} (o : rust.Option ℕ) (is : found o ≡ input_of e) where
+  -- an input adds nothing
+  pub made_input : used_in s ≤ most_in s → is_some o ≡ true → p ≡ s → Made e s p
+  made_input busy b same =
+      let no = rw is at (no_operand o (weighed 2 e) (held e) b) in
+      let none = rw is at (no_operand o (weighed 2 e) (most e) b) in
+      rw same
+      (record {
+        gates_shown_lem = omega (arith, no.0);
+        gates_least = omega arith;
+        gates_most = omega arith;
+        used_are = omega (arith, no.1);
+        most_are = omega (arith, none.1, busy);
+      })
 
--- any other operand its own numbers, behind the line that it takes
-pub made_built : {e : Expr} {s u p : ℕ} → used_in s < most_size → most_in s ≤ most_size → is_built (input_of e) ≡ true
-    → u ≡ packed_counts (gates_in s) (max (most_in s) (used_in s + 1)) (used_in s + 1) → Counted e 2 u p → Made e s p
-made_built {e} {s} {u} low few b to c =
-    let d = by_numbers c in
-    let an = an_operand (input_of e) (weighed 2 e) (held e) b in
-    let also = an_operand (input_of e) (weighed 2 e) (most e) b in
-    let gates : gates_in u ≡ gates_in s = packed_gates (gates_in s) to (omega arith) (omega arith) in
-    let lines : most_in u ≡ max (most_in s) (used_in s + 1) = packed_most (gates_in s) to (omega arith) (omega arith) in
-    let used : used_in u ≡ used_in s + 1 = packed_used (gates_in s) to (omega arith) (omega arith) in
-    record {
-      gates_shown_lem = omega (arith, d.gates_shown_lem, gates, an.0);
-      gates_least = omega (arith, d.gates_least, gates);
-      gates_most = omega (arith, d.gates_most, gates);
-      used_are = omega (arith, d.used_are, used, an.1);
-      most_are = omega (arith, d.most_are, used, lines, also.1);
-    }
+  -- any other operand its own numbers, behind the line that it takes
+  pub made_built : {u : ℕ} → used_in s < most_size → most_in s ≤ most_size → is_some o ≡ false
+      → u ≡ packed_counts (gates_in s) (max (most_in s) (used_in s + 1)) (used_in s + 1) → Counted e 2 u p → Made e s p
+  made_built {u} low few b to c =
+      let d = by_numbers c in
+      let an = rw is at (an_operand o (weighed 2 e) (held e) b) in
+      let also = rw is at (an_operand o (weighed 2 e) (most e) b) in
+      let gates : gates_in u ≡ gates_in s = packed_gates (gates_in s) to (omega arith) (omega arith) in
+      let lines : most_in u ≡ max (most_in s) (used_in s + 1) = packed_most (gates_in s) to (omega arith) (omega arith) in
+      let used : used_in u ≡ used_in s + 1 = packed_used (gates_in s) to (omega arith) (omega arith) in
+      record {
+        gates_shown_lem = omega (arith, d.gates_shown_lem, gates, an.0);
+        gates_least = omega (arith, d.gates_least, gates);
+        gates_most = omega (arith, d.gates_most, gates);
+        used_are = omega (arith, d.used_are, used, an.1);
+        most_are = omega (arith, d.most_are, used, lines, also.1);
+      }
 
 module _ {e : Expr} {s p : ℕ} (d : Made e s p) where
   -- the lines in use are still no more than the most in use together

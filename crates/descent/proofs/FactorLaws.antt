@@ -6,10 +6,12 @@ use mathlib.Core.Logic.{◌≢◌}
 use mathlib.Core.Bool.{Bool, true, false, cond}
 use mathlib.Core.List.{List, [], ◌∷◌}
 use lib.ListN.{length, get_or}
-use lib.Dec.{eqb}
-use borrow.Author.Tests.{ne_eqb, eqb-true, eqb-false}
+use borrow.Author.Tests.{ne_eqb}
+use Rattle.std.specs.Prelude.{Result, Ok, Err}
+use Rattle.refusal.specs.declared.causes.Refusal.{Refusal}
 use Rattle.refusal.specs.declared.causes.Refusal.TheVariants as cause
 use Rattle.wire.specs.Limits.{most_text, most_nodes, most_open}
+use Rattle.node.specs.Kinds.{kind_number}
 use Rattle.node.specs.declared.nodes.Node.TheVariants.{Not}
 use Rattle.grammar.specs.Characters.{caret, ampersand, exclamation, opening, closing}
 use Rattle.grammar.specs.Grammar.{Sum, lone, plus, negation, brackets}
@@ -20,12 +22,11 @@ use Rattle.automaton.specs.States.{State, factor_next, opened, open_sum, open_fa
 use Rattle.automaton.specs.Automaton.{product_with, outside_factor, after_factor, sum_with, outside_product, stop, go, read_closing, read_behind, read_factor_byte, read_byte, finish, finish_sum, finish_product}
 use Rattle.automaton.proofs.BoundLaws.{open_after}
 use Rattle.scanner.specs.declared.Leaf.{Leaf}
-use Rattle.scanner.specs.declared.Leaf.TheVariants as leaf
 use Rattle.scanner.specs.Scanning.{Goes, LeafRead}
 use Rattle.scanner.proofs.PlaceLaws.{byte_inside, goes_byte, opens_byte, stops_here, goes_then, goes_refuses}
-use Rattle.emitter.specs.declared.Read.{Read}
-use Rattle.emitter.specs.declared.Read.TheVariants.{End, Bad}
-use Rattle.emitter.specs.Emitting.{put_nodes, LeafStorable, LeafStored, Joinable, Negated, closed}
+use Rattle.emitter.specs.declared.Part.{Part}
+use Rattle.emitter.specs.Emitting.{put_nodes, Storable, LeafStored, Joinable, Negated, follows_by, closed}
+use Rattle.emitter.proofs.FollowLaws.{byte_follows, byte_differs}
 use Rattle.emitter.proofs.WriteLaws.{put_as, put_not, put_then}
 use Rattle.descent.specs.Readers.{FactorRead, sum_read, SumEnd, SumRead}
 
@@ -46,32 +47,34 @@ sum_close (lone p) c = refl
 sum_close (plus t p) c = refl
 
 -- a leaf's node can be stored
-pub leaf_storable : (n : ℕ) (text : List ℕ) (at made room : ℕ) (r : Leaf) → LeafRead n text at made r → length text ≤ most_text → made ≤ at → 6 * most_nodes ≤ room → LeafStorable r made room
-unfolding LeafRead LeafStorable
-leaf_storable n text at made room (leaf.Good kind a e) g short nodes fits = record { index = omega (arith, g.later, g.inside); first = omega (arith, g.small); second = omega arith; fits = fits }
-leaf_storable n text at made room (leaf.Bad why) g short nodes fits = tt
+pub leaf_storable : (n : ℕ) (text : List ℕ) (at made room : ℕ) (leaf : Leaf) → LeafRead n text at made (Ok leaf) → length text ≤ most_text → made ≤ at → 6 * most_nodes ≤ room → Storable made leaf.field 0 room
+unfolding LeafRead
+leaf_storable n text at made room leaf g short nodes fits = record { index = omega (arith, g.later, g.inside); first = omega (arith, g.small); second = omega arith; fits = fits }
 
 -- what a ! negates can be joined
-pub not_joinable : (n : ℕ) (text : List ℕ) (at left made room : ℕ) (old new : List ℕ) (r : Read) → FactorRead n text at left made old new r → length text ≤ most_text → made < at → 6 * most_nodes ≤ room
-    → Joinable r 1 room
-unfolding FactorRead Joinable
-not_joinable n text at left made room old new (End e m) g short nodes fits =
+pub not_joinable : (n : ℕ) (text : List ℕ) (at left made room : ℕ) (old new : List ℕ) (under : Part) → FactorRead n text at left made old new (Ok under) → length text ≤ most_text → made < at → 6 * most_nodes ≤ room
+    → Joinable 1 under.made room
+unfolding FactorRead
+not_joinable n text at left made room old new under g short nodes fits =
     record { some = omega arith; more = omega (arith, g.further.some); index = omega (arith, g.further.inside, g.further.nodes); fits = fits }
-not_joinable n text at left made room old new (Bad why) g short nodes fits = tt
 
 module _ (n : ℕ) (text : List ℕ) (at left made : ℕ) (old new : List ℕ) where
   -- a leaf
-  pub factor_leaf : (f : Leaf) (r : Read) → made ≤ at → get_or text at 0 ≢ exclamation → get_or text at 0 ≢ opening → LeafRead n text at made f → LeafStored f made old new r → FactorRead n text at left made old new r
-  unfolding LeafRead LeafStored FactorRead
-  factor_leaf (leaf.Good kind a e) r p h₁ h₂ g w =
-      rw w.0 (record {
-        tree = g.tree;
-        count = omega (arith, g.one);
-        written = w.1 ∙ put_as old made (factor_nodes g.tree made) kind a 0 (g.stored made);
-        further = omega (arith, g.later, g.inside);
-        goes = λ c o m. g.goes c (omega arith);
-      })
-  factor_leaf (leaf.Bad why) r p h₁ h₂ g w = rw w (λ c o m. g h₁ h₂ c (omega arith) m)
+  module _ (h₁ : get_or text at 0 ≢ exclamation) (h₂ : get_or text at 0 ≢ opening) where
+    pub factor_leaf : (leaf : Leaf) (r : Part) → made ≤ at → LeafRead n text at made (Ok leaf) → LeafStored leaf made old new r → FactorRead n text at left made old new (Ok r)
+    unfolding LeafRead FactorRead
+    factor_leaf leaf r p g w =
+        rw w.0 (record {
+          tree = g.tree;
+          count = omega (arith, g.one);
+          written = w.1 ∙ put_as old made (factor_nodes g.tree made) (kind_number leaf.kind) leaf.field 0 (g.stored made);
+          further = omega (arith, g.later, g.inside);
+          goes = λ c o m. g.goes c (omega arith);
+        })
+
+    pub factor_no_leaf : (why : Refusal) → LeafRead n text at made (Err why) → FactorRead n text at left made old new (Err why)
+    unfolding LeafRead FactorRead
+    factor_no_leaf why g = λ c o m. g h₁ h₂ c (omega arith) m
 
   -- the byte at the place leads on from where a factor is to come
   module _ (b : ℕ) (e : get_or text at 0 ≡ b) (some : 1 ≤ b) where
@@ -84,7 +87,7 @@ module _ (n : ℕ) (text : List ℕ) (at left made : ℕ) (old new : List ℕ) w
 
   -- ! and the factor behind it
   module _ (e : get_or text at 0 ≡ exclamation) where
-    pub factor_deep_not : left ≡ 0 → FactorRead n text at left made old new (Bad (cause.Depth at))
+    pub factor_deep_not : left ≡ 0 → FactorRead n text at left made old new (Err (cause.Depth at))
     unfolding FactorRead read_factor_byte opened open_factor
     factor_deep_not z = λ c o m. opens_byte n text (factor_next (negated c)) (here exclamation e (omega arith)) (reads_as exclamation e (omega arith) c refl) (omega arith)
 
@@ -92,24 +95,27 @@ module _ (n : ℕ) (text : List ℕ) (at left made : ℕ) (old new : List ℕ) w
     unfolding read_factor_byte opened open_factor
     not_goes more c o = goes_byte n text (factor_next (negated c)) (here exclamation e (omega arith)) (reads_as exclamation e (omega arith) c refl) (omega arith) tt
 
-    pub factor_not : left ≢ 0 → (between : List ℕ) (under r : Read) → FactorRead n text (at + 1) (left - 1) made old between under → Negated under between new r → FactorRead n text at left made old new r
-    unfolding FactorRead Negated factor_count open_factor made_factor after_factor product_with outside_factor factor_nodes
-    factor_not more between (End f m) r g w =
+    pub factor_not : left ≢ 0 → (between : List ℕ) (under r : Part) → FactorRead n text (at + 1) (left - 1) made old between (Ok under) → Negated under between new r → FactorRead n text at left made old new (Ok r)
+    unfolding FactorRead factor_count open_factor made_factor after_factor product_with outside_factor factor_nodes
+    factor_not more between under r g w =
         rw w.0 (record {
           tree = negation g.tree;
           count = omega (arith, g.count);
           written =
-              put_then (factor_nodes g.tree made) (Not (made + factor_count g.tree - 1)) old made m
+              put_then (factor_nodes g.tree made) (Not (made + factor_count g.tree - 1)) old made under.made
               (g.count ∙ ap (λ (k : ℕ). made + k) (sym (factor_nodes_lem g.tree made))) g.written
-              (w.1 ∙ put_not between m (m - 1) ∙ ap (λ (k : ℕ). put_nodes between m (Not (k - 1) ∷ [])) g.count);
+              (w.1 ∙ put_not between under.made (under.made - 1) ∙ ap (λ (k : ℕ). put_nodes between under.made (Not (k - 1) ∷ [])) g.count);
           further = omega (arith, g.further.later, g.further.inside, g.further.nodes, g.further.some);
           goes = λ c o h. goes_then n text (not_goes more c o) (g.goes (negated c) (omega arith) h);
         })
-    factor_not more between (Bad why) r g w = rw w (λ c o m. goes_refuses n text (not_goes more c o) (g (negated c) (omega arith) m))
+
+    pub factor_not_refused : left ≢ 0 → (why : Refusal) (between : List ℕ) → FactorRead n text (at + 1) (left - 1) made old between (Err why) → FactorRead n text at left made old new (Err why)
+    unfolding FactorRead open_factor made_factor
+    factor_not_refused more why between g = λ c o m. goes_refuses n text (not_goes more c o) (g (negated c) (omega arith) m)
 
   -- a bracket, and the sum in it
   module _ (e : get_or text at 0 ≡ opening) where
-    pub factor_deep_bracket : left ≡ 0 → FactorRead n text at left made old new (Bad (cause.Depth at))
+    pub factor_deep_bracket : left ≡ 0 → FactorRead n text at left made old new (Err (cause.Depth at))
     unfolding FactorRead read_factor_byte opened open_factor
     factor_deep_bracket z = λ c o m.
         opens_byte n text (factor_next (first_factor (first_product (in_brackets c)))) (here opening e (omega arith)) (reads_as opening e (omega arith) c refl) (omega arith)
@@ -121,32 +127,34 @@ module _ (n : ℕ) (text : List ℕ) (at left made : ℕ) (old new : List ℕ) w
           goes_byte n text (factor_next (first_factor (first_product (in_brackets c)))) (here opening e (omega arith)) (reads_as opening e (omega arith) c refl) (omega arith) tt
 
       -- it ended
-      module _ {f m : ℕ} (g : SumEnd n text (at + 1) (left - 1) made old new f m) where
-        inner_goes : (c : AroundFactor) → open_factor c + left ≡ most_open → made_factor c ≡ made → Goes n text (factor_next c) at (sum_read g.so.tree (in_brackets c)) f
+      module _ (inner : Part) (g : SumEnd n text (at + 1) (left - 1) made old new inner.end inner.made) where
+        inner_goes : (c : AroundFactor) → open_factor c + left ≡ most_open → made_factor c ≡ made → Goes n text (factor_next c) at (sum_read g.so.tree (in_brackets c)) inner.end
         unfolding open_sum made_sum
         inner_goes c o w = goes_then n text (bracket_goes c o) (g.so.goes (in_brackets c) (omega arith) w)
 
-        by_closing : (t : Bool) → eqb (get_or text f 0) closing ≡ t → FactorRead n text at left made old new (cond t (End (f + 1) m) (Bad (cause.Text f)))
+        by_closing : (t : Bool) → follows_by text inner closing ≡ t → FactorRead n text at left made old new (cond t (Ok (record { end = inner.end + 1; made = inner.made })) (Err (cause.Text inner.end)))
         unfolding FactorRead factor_count factor_nodes finish_sum
         by_closing true q =
-            let x : get_or text f 0 ≡ closing = eqb-true (get_or text f 0) closing q in
-            let there : f < length text = byte_inside text f (omega arith) in
+            let there = byte_follows text inner closing (omega arith) q in
             record {
               tree = brackets g.so.tree;
               count = g.so.count;
               written = g.so.written;
-              further = omega (arith, g.so.further.later, g.so.further.inside, g.so.further.nodes, g.so.further.some);
+              further = omega (arith, g.so.further.later, g.so.further.nodes, g.so.further.some, there.inside);
               goes = λ c o w.
                   goes_then n text (inner_goes c o w)
-                  (goes_byte n text (after_factor (brackets g.so.tree) c) there (rw x (sum_close g.so.tree c)) (omega (arith, open_after (brackets g.so.tree) c)) (unfold after_factor in tt));
+                  (goes_byte n text (after_factor (brackets g.so.tree) c) there.inside (rw there.is (sum_close g.so.tree c)) (omega (arith, open_after (brackets g.so.tree) c)) (unfold after_factor in tt));
             }
         by_closing false q = λ c o w.
             goes_refuses n text (inner_goes c o w)
             (stops_here n text g.so.further.inside
-            (sum_stop g.so.tree (in_brackets c) (get_or text f 0) g.so.no_and g.no_caret (eqb-false (get_or text f 0) closing q))
+            (sum_stop g.so.tree (in_brackets c) (get_or text inner.end 0) g.so.no_and g.no_caret (byte_differs text inner closing (omega arith) q))
             (sum_finish (length text) g.so.tree (in_brackets c)))
 
-      pub factor_bracket : (inner : Read) {r : Read} → SumRead n text (at + 1) (left - 1) made old new inner → r ≡ closed text inner → FactorRead n text at left made old new r
-      unfolding SumRead closed FactorRead open_sum made_sum
-      factor_bracket (End f m) g w = rw w (by_closing g (eqb (get_or text f 0) closing) refl)
-      factor_bracket (Bad why) g w = rw w (λ c o m. goes_refuses n text (bracket_goes c o) (g (in_brackets c) (omega arith) m))
+      pub factor_bracket : (inner : Part) {r : Result Part Refusal} → SumRead n text (at + 1) (left - 1) made old new (Ok inner) → r ≡ closed text inner → FactorRead n text at left made old new r
+      unfolding SumRead closed
+      factor_bracket inner g w = rw w (by_closing inner g (follows_by text inner closing) refl)
+
+      pub factor_bracket_refused : (why : Refusal) → SumRead n text (at + 1) (left - 1) made old new (Err why) → FactorRead n text at left made old new (Err why)
+      unfolding SumRead FactorRead open_sum made_sum
+      factor_bracket_refused why g = λ c o m. goes_refuses n text (bracket_goes c o) (g (in_brackets c) (omega arith) m)

@@ -1,5 +1,6 @@
 -- What the readers ask for, answer and write, in terms of the automaton.
-use Rattle.std.specs.Prelude.{ℕ, ◌+◌, ◌*◌, ◌≤◌, ◌<◌, ◌≡◌, ◌≢◌, List, length, get_or}
+use Rattle.std.specs.Prelude.{ℕ, ◌+◌, ◌*◌, ◌≤◌, ◌<◌, ◌≡◌, ◌≢◌, List, length, get_or, Result, Ok, Err}
+use Rattle.refusal.specs.declared.causes.Refusal.{Refusal}
 use Rattle.wire.specs.Limits.{most_inputs, most_nodes, most_text, most_open}
 use Rattle.grammar.specs.Characters.{caret, ampersand}
 use Rattle.grammar.specs.Grammar.{Sum, Product, Factor, lone, plus}
@@ -8,9 +9,8 @@ use Rattle.automaton.specs.States.{AroundSum, AroundProduct, AroundFactor, first
 use Rattle.automaton.specs.States.{State, factor_next, product_read, open_sum, open_product, open_factor, made_sum, made_product, made_factor}
 use Rattle.automaton.specs.Automaton.{after_factor}
 use Rattle.scanner.specs.Scanning.{Goes, Refuses}
-use Rattle.emitter.specs.declared.Read.{Read}
-use Rattle.emitter.specs.declared.Read.TheVariants.{End, Bad}
-use Rattle.emitter.specs.Emitting.{put_nodes, Joined}
+use Rattle.emitter.specs.declared.Part.{Part}
+use Rattle.emitter.specs.Emitting.{put_nodes}
 
 -- a place in a text over n inputs, with no more nodes made than bytes read, and room for all nodes that a text can make
 pub record Readable (n : ℕ) (text : List ℕ) (at made room : ℕ) : Type 0 where
@@ -19,17 +19,6 @@ pub record Readable (n : ℕ) (text : List ℕ) (at made room : ℕ) : Type 0 wh
   pub inside : at ≤ length text
   pub nodes : made ≤ at
   pub fits : 6 * most_nodes ≤ room
-
--- the place behind the byte that follows what was read, and that something was
-pub record ReadableBehind (n : ℕ) (text : List ℕ) (e m room : ℕ) : Type 0 where
-  pub readable : Readable n text (e + 1) m room
-  pub some : 1 ≤ m
-  pub fewer : m ≤ e
-
--- the same of an answer so far, if it is no refusal
-unfoldable pub ReadableNext : ℕ → List ℕ → Read → ℕ → Type 0
-ReadableNext n text (End e m) room = ReadableBehind n text e m room
-ReadableNext n text (Bad why) room = Unit {0}
 
 -- a reader is further on, inside the text, and made no more nodes than it read bytes, and one at least
 pub record Further (text : List ℕ) (at made e m : ℕ) : Type 0 where
@@ -47,9 +36,9 @@ pub record FactorEnd (n : ℕ) (text : List ℕ) (at left made : ℕ) (old new :
   pub goes : (c : AroundFactor) → open_factor c + left ≡ most_open → made_factor c ≡ made → Goes n text (factor_next c) at (after_factor tree c) e
 
 -- what the reader of factors answers: a factor, or the refusal that reading on gives, whatever stands around; nothing is said of the node body then
-unfoldable pub FactorRead : ℕ → List ℕ → ℕ → ℕ → ℕ → List ℕ → List ℕ → Read → Type 0
-FactorRead n text at left made old new (End e m) = FactorEnd n text at left made old new e m
-FactorRead n text at left made old new (Bad why) = (c : AroundFactor) → open_factor c + left ≡ most_open → made_factor c ≡ made → Refuses n text (factor_next c) at why
+unfoldable pub FactorRead : ℕ → List ℕ → ℕ → ℕ → ℕ → List ℕ → List ℕ → Result Part Refusal → Type 0
+FactorRead n text at left made old new (Ok read) = FactorEnd n text at left made old new read.end read.made
+FactorRead n text at left made old new (Err why) = (c : AroundFactor) → open_factor c + left ≡ most_open → made_factor c ≡ made → Refuses n text (factor_next c) at why
 
 -- a product was read so far, which & may go on
 pub record ProductSo (n : ℕ) (text : List ℕ) (at left made : ℕ) (old new : List ℕ) (e m : ℕ) : Type 0 where
@@ -65,22 +54,10 @@ pub record ProductEnd (n : ℕ) (text : List ℕ) (at left made : ℕ) (old new 
   pub no_and : get_or text e 0 ≢ ampersand
 
 -- what the reader of products answers
-unfoldable pub ProductRead : ℕ → List ℕ → ℕ → ℕ → ℕ → List ℕ → List ℕ → Read → Type 0
-ProductRead n text at left made old new (End e m) = ProductEnd n text at left made old new e m
-ProductRead n text at left made old new (Bad why) =
+unfoldable pub ProductRead : ℕ → List ℕ → ℕ → ℕ → ℕ → List ℕ → List ℕ → Result Part Refusal → Type 0
+ProductRead n text at left made old new (Ok read) = ProductEnd n text at left made old new read.end read.made
+ProductRead n text at left made old new (Err why) =
     (k : AroundProduct) → open_product k + left ≡ most_open → made_product k ≡ made → Refuses n text (factor_next (first_factor k)) at why
-
--- the factor behind an & was read, and the node that joins it is stored
-pub record FactorJoined (n : ℕ) (text : List ℕ) (left e m : ℕ) (old new : List ℕ) (r : Read) : Type 0 where
-  pub next : Read
-  pub between : List ℕ
-  pub reads : FactorRead n text (e + 1) left m old between next
-  pub joins : Joined 5 m next between new r
-
--- what going on with a factor answers; a refusal does not go on
-unfoldable pub NextFactor : ℕ → List ℕ → ℕ → Read → List ℕ → List ℕ → Read → Type 0
-NextFactor n text left (End e m) old new r = FactorJoined n text left e m old new r
-NextFactor n text left (Bad why) old new r = Unit {0}
 
 -- the state in which a sum was read
 unfoldable pub sum_read : Sum → AroundSum → State
@@ -102,19 +79,7 @@ pub record SumEnd (n : ℕ) (text : List ℕ) (at left made : ℕ) (old new : Li
   pub no_caret : get_or text e 0 ≢ caret
 
 -- what the reader of sums answers
-unfoldable pub SumRead : ℕ → List ℕ → ℕ → ℕ → ℕ → List ℕ → List ℕ → Read → Type 0
-SumRead n text at left made old new (End e m) = SumEnd n text at left made old new e m
-SumRead n text at left made old new (Bad why) =
+unfoldable pub SumRead : ℕ → List ℕ → ℕ → ℕ → ℕ → List ℕ → List ℕ → Result Part Refusal → Type 0
+SumRead n text at left made old new (Ok read) = SumEnd n text at left made old new read.end read.made
+SumRead n text at left made old new (Err why) =
     (k : AroundSum) → open_sum k + left ≡ most_open → made_sum k ≡ made → Refuses n text (factor_next (first_factor (first_product k))) at why
-
--- the product behind a ^ was read, and the node that joins it is stored
-pub record ProductJoined (n : ℕ) (text : List ℕ) (left e m : ℕ) (old new : List ℕ) (r : Read) : Type 0 where
-  pub next : Read
-  pub between : List ℕ
-  pub reads : ProductRead n text (e + 1) left m old between next
-  pub joins : Joined 4 m next between new r
-
--- what going on with a product answers; a refusal does not go on
-unfoldable pub NextProduct : ℕ → List ℕ → ℕ → Read → List ℕ → List ℕ → Read → Type 0
-NextProduct n text left (End e m) old new r = ProductJoined n text left e m old new r
-NextProduct n text left (Bad why) old new r = Unit {0}

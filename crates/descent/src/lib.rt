@@ -1,18 +1,21 @@
 // Reading by recursive descent: the readers of sums, products and factors call each other. At each
-// call the bytes that remain get fewer, or the level of the grammar falls; and at each ! and bracket
-// one fewer may be open.
+// call the bytes that remain get fewer, or the level of the grammar falls; and at each ! and
+// bracket one fewer may be open.
+//
+// The readers' parameters are no struct: behind &mut it would be lent as a whole, its nodes with
+// it, so that each reader would have to promise that it leaves the text and the inputs unchanged.
 #![tactic(auto)]
 
 ghost use Rattle.std.specs.Prelude.{length};
-ghost use Rattle.descent.specs.Readers.{Readable, ReadableNext, SumRead, ProductRead, FactorRead, NextProduct, NextFactor};
+ghost use Rattle.descent.specs.Readers.{Readable, SumRead, ProductRead, FactorRead};
 
-use emitter::{Read, close, follows, join, negate, store_leaf};
-use node::kinds::{AND, XOR};
+use emitter::{Part, close, follows, join, negate, store_leaf};
+use node::kinds::Kind;
 use refusal::causes::Refusal;
 use scanner::{byte_at, read_leaf};
 
-// Products joined by ^, over so many inputs, from an index on, where left may still be opened and so
-// many nodes are made.
+// Products joined by ^, over so many inputs, from an index on, where left may still be opened and
+// so many nodes are made.
 #[cycle(readers)]
 pub fn sum(
     text: &&[u8],
@@ -21,32 +24,22 @@ pub fn sum(
     left: usize,
     made: usize,
     nodes: &mut [u8],
-) -> Read
+) -> Result<Part, Refusal>
     requires { Readable inputs text.now.now at made (length nodes.old) }
     ensures { SumRead inputs text.now.now at left made nodes.old nodes.new result }
 {
-    let mut so = product(text, inputs, at, left, made, nodes);
+    let mut so = product(text, inputs, at, left, made, nodes)?;
     while follows(text, so, b'^') {
-        so = next_product(text, inputs, left, so, nodes);
+        let next = product(text, inputs, so.end + 1, left, so.made, nodes)?;
+        so = join(next, so.made, Kind::Xor, nodes);
     }
-    so
+    Ok(so)
 }
 
-// The product behind a ^, and the node that joins it to what was read so far.
+// Factors joined by &. It is put in place where it is called: a call for each operand of ^ made
+// reading a tenth slower.
 #[cycle(readers)]
-fn next_product(text: &&[u8], inputs: usize, left: usize, so: Read, nodes: &mut [u8]) -> Read
-    requires { ReadableNext inputs text.now.now so (length nodes.old) }
-    ensures { NextProduct inputs text.now.now left so nodes.old nodes.new result }
-{
-    let Read::End(e, m) = so else {
-        return so;
-    };
-    let next = product(text, inputs, e + 1, left, m, nodes);
-    join(next, m, XOR, nodes)
-}
-
-// Factors joined by &.
-#[cycle(readers)]
+#[inline(always)]
 fn product(
     text: &&[u8],
     inputs: usize,
@@ -54,28 +47,16 @@ fn product(
     left: usize,
     made: usize,
     nodes: &mut [u8],
-) -> Read
+) -> Result<Part, Refusal>
     requires { Readable inputs text.now.now at made (length nodes.old) }
     ensures { ProductRead inputs text.now.now at left made nodes.old nodes.new result }
 {
-    let mut so = factor(text, inputs, at, left, made, nodes);
+    let mut so = factor(text, inputs, at, left, made, nodes)?;
     while follows(text, so, b'&') {
-        so = next_factor(text, inputs, left, so, nodes);
+        let next = factor(text, inputs, so.end + 1, left, so.made, nodes)?;
+        so = join(next, so.made, Kind::And, nodes);
     }
-    so
-}
-
-// The factor behind an &, and the node that joins it to what was read so far.
-#[cycle(readers)]
-fn next_factor(text: &&[u8], inputs: usize, left: usize, so: Read, nodes: &mut [u8]) -> Read
-    requires { ReadableNext inputs text.now.now so (length nodes.old) }
-    ensures { NextFactor inputs text.now.now left so nodes.old nodes.new result }
-{
-    let Read::End(e, m) = so else {
-        return so;
-    };
-    let next = factor(text, inputs, e + 1, left, m, nodes);
-    join(next, m, AND, nodes)
+    Ok(so)
 }
 
 // ! and a factor, a sum in brackets, or a leaf.
@@ -87,25 +68,28 @@ fn factor(
     left: usize,
     made: usize,
     nodes: &mut [u8],
-) -> Read
+) -> Result<Part, Refusal>
     requires { Readable inputs text.now.now at made (length nodes.old) }
     ensures { FactorRead inputs text.now.now at left made nodes.old nodes.new result }
 {
-    let b = byte_at(text, at);
-    if b == b'!' {
-        if left == 0 {
-            return Read::Bad(Refusal::Depth(at as u64));
+    match byte_at(text, at) {
+        Some(b'!') => {
+            if left == 0 {
+                return Err(Refusal::Depth(at as u64));
+            }
+            let under = factor(text, inputs, at + 1, left - 1, made, nodes)?;
+            Ok(negate(under, nodes))
         }
-        let under = factor(text, inputs, at + 1, left - 1, made, nodes);
-        return negate(under, nodes);
-    }
-    if b == b'(' {
-        if left == 0 {
-            return Read::Bad(Refusal::Depth(at as u64));
+        Some(b'(') => {
+            if left == 0 {
+                return Err(Refusal::Depth(at as u64));
+            }
+            let inner = sum(text, inputs, at + 1, left - 1, made, nodes)?;
+            close(text, inner)
         }
-        let inner = sum(text, inputs, at + 1, left - 1, made, nodes);
-        return close(text, inner);
+        _ => {
+            let leaf = read_leaf(text, inputs, at, made)?;
+            Ok(store_leaf(leaf, made, nodes))
+        }
     }
-    let leaf = read_leaf(text, inputs, at, made);
-    store_leaf(leaf, made, nodes)
 }

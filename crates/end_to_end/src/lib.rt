@@ -8,19 +8,9 @@ ghost use Rattle.compilation.specs.Compiling.{compile_of};
 ghost use Rattle.end_to_end.specs.EndToEnd.{compile_and_run, Ends};
 
 use circuit::layout::file_length;
-use compile::{Compiled, compile};
+use compile::compile;
 use refusal::causes::Refusal;
-use run::{Ran, run_forwards};
-
-// The compiler's refusal, passed on.
-fn refused(answer: Compiled) -> Ran
-    ensures { (why : Refusal) → answer ≡ Compiled.Refused why → result ≡ Ran.Refused why }
-{
-    match answer {
-        Compiled::Refused(why) => Ran::Refused(why),
-        Compiled::Written(_) => Ran::Refused(Refusal::Table),
-    }
-}
+use run::run_forwards;
 
 // Compiles a program file and runs the file written on the lines; running reads it back first. On
 // a refusal the lines are as they were, and the other areas as compiling leaves them.
@@ -30,17 +20,14 @@ pub fn compile_and_run(
     sizes: &mut [u16],
     area: &mut [u8],
     lines: &mut [u8],
-) -> Ran
+) -> Result<(), Refusal>
     ensures result_value { ran result ≡ done (compile_and_run file.now grant sizes.old area.old lines.old) }
     ensures sizes_after { sizes.new ≡ (compile_of file.now grant sizes.old area.old).sizes }
     ensures area_after { area.new ≡ (compile_of file.now grant sizes.old area.old).area }
     ensures lines_after { lines.new ≡ lines_after (compile_and_run file.now grant sizes.old area.old lines.old) lines.old }
     ensures ends { Ends file.now grant sizes.old area.old lines.old (ran result) lines.new }
 {
-    let answer = compile(file, grant, sizes, area);
-    let Compiled::Written(head) = answer else {
-        return refused(answer);
-    };
+    let head = compile(file, grant, sizes, area)?;
     let end = file_length(head.gates);
     run_forwards(&area[..end], lines)
 }

@@ -3,7 +3,7 @@
 #![tactic(auto)]
 
 use end_to_end::compile_and_run;
-use run::Ran;
+use refusal::causes::Refusal;
 use std::io;
 
 // The target's line, behind three inputs.
@@ -25,10 +25,10 @@ fn write_lines(rt: &impl Print, word: &str, lines: &[u8]) -> io::Result<()> {
 }
 
 // Writes what was answered.
-fn write_answer(rt: &impl Print, answer: Ran) -> io::Result<()> {
+fn write_answer(rt: &impl Print, answer: Result<(), Refusal>) -> io::Result<()> {
     match answer {
-        Ran::Done => rt.println("done"),
-        Ran::Refused(why) => println!(rt; "refused {} {}", why.number(), why.place()),
+        Ok(()) => rt.println("done"),
+        Err(why) => println!(rt; "{why}"),
     }
 }
 

@@ -1,12 +1,16 @@
 -- Laws of the count list: an entry is found where it was stored, and the next one is made of those before it. Assumes nothing.
-use Prim.Native.Nat.{ℕ, ◌+◌, ◌*◌, ◌/◌, ◌<◌, ◌≤◌}
+use Prim.Native.Nat.{ℕ, zero, suc, ◌-◌, ◌+◌, ◌*◌, ◌/◌, ◌<◌, ◌≤◌}
 use native.Mathlib.Omega.{arith}
 use native.Mathlib.Nat.{add-zero}
 use mathlib.Core.Path.{◌≡◌, refl, sym, ap, ◌∙◌}
 use mathlib.Core.Bool.{Bool}
 use mathlib.Core.List.{List, [], ◌++◌, flat_map, append-nil}
 use lib.ListN.{length, get_or, take}
-use lib.Seq.{length-take-le}
+use lib.Seq.{sets, length-take-le}
+use Rattle.std.specs.Prelude.{Option, Some, None, SomeIff}
+use native.Mathlib.Numerals.{one-add}
+use borrow.Rule.Slice.PartMut.{put_mid}
+use Rattle.wire.proofs.AreaLaws.{part_stored}
 use Rattle.wire.proofs.FillLaws.{Filled, filled_front}
 use Rattle.wire.proofs.ListLaws.{flat_length, flat_take, flat_fits, flat_number}
 use Rattle.node.specs.declared.nodes.Node.{Node}
@@ -20,18 +24,37 @@ use Rattle.node.proofs.TreeLaws.{trees_count, node_in, node_inside}
 use Rattle.entry.specs.declared.Entry.{Entry}
 use Rattle.entry.specs.Entries.{leaf_entry, entry_of, SmallEntry}
 use Rattle.entry.proofs.EntryLaws.{small, entry_zero, entry_one, entry_input}
-use Rattle.entries.specs.CountList.{numbers_of, entry_from, tree_numbers, node_numbers, OperandsListed}
+use Rattle.entries.specs.CountList.{input_number, input_from, numbers_of, entry_from, tree_numbers, node_numbers, OperandsListed}
 
 pub eight : (e : Expr) → length (tree_numbers e) ≡ 8
 unfolding numbers_of
 eight e = refl
+
+-- an entry's numbers, copied over a part of the list, are stored there
+pub entry_stored : (list : List ℕ) (at : ℕ) (e : Entry) {copied : List ℕ} → copied ≡ numbers_of e → at + 8 ≤ length list → put_mid at (at + 8 - at) list copied ≡ sets list at (numbers_of e)
+unfolding numbers_of
+entry_stored list at e p room = part_stored (numbers_of e) list at (at + 8 - at) p (omega arith) room
+
+-- the number of an input says that input
+input_back : (q : Option ℕ) → input_from (input_number q) ≡ q
+unfolding input_number input_from
+input_back None = refl
+input_back (Some j) = rw one-add refl
+
+-- and so does one number less, where there is one
+pub input_found : (n : ℕ) (q : Option ℕ) → SomeIff q (1 ≤ n) (n - 1) → q ≡ input_from n
+unfolding input_from
+input_found zero None h = refl
+input_found zero (Some j) h = absurd (omega (arith, h.0))
+input_found (suc n) None h = absurd (h (omega arith))
+input_found (suc n) (Some j) h = ap Some (omega (arith, h.1))
 
 -- an entry that was stored is found
 entry_back : (list : List ℕ) (at : ℕ) (e : Entry) → ((j : ℕ) → j < 8 → get_or list (at + j) 0 ≡ get_or (numbers_of e) j 0) → entry_from list at ≡ e
 unfolding numbers_of
 entry_back list at e h =
     let first : get_or list at 0 ≡ e.gates.built = rw add-zero at (h 0 (omega arith)) in
-    rw (first, h 1 (omega arith), h 2 (omega arith), h 3 (omega arith), h 4 (omega arith), h 5 (omega arith), h 6 (omega arith)) refl
+    rw (first, h 1 (omega arith), h 2 (omega arith), h 3 (omega arith), h 4 (omega arith), h 5 (omega arith), h 6 (omega arith), input_back e.input) refl
 
 -- so it is in a list that starts with the entries of trees
 module _ (ts : List Expr) (list rest : List ℕ) (p : list ≡ flat_map tree_numbers ts ++ rest) (a : ℕ) (h : a < length ts) where
@@ -62,15 +85,15 @@ module _ {list : List ℕ} {node : Node} (k : OperandsListed list node) where
     operand_small : {x : Entry} → x ≡ entry_from list (8 * a) → SmallEntry x
     operand_small p = small (get_or k.trees a ZERO) (operand_is k.trees k.listed p)
 
-  pub next_zero : node ≡ Zero → {r : Entry} → r ≡ leaf_entry 0 0 → NextOf tree_numbers node list (numbers_of r)
+  pub next_zero : node ≡ Zero → {r : Entry} → r ≡ leaf_entry 0 None → NextOf tree_numbers node list (numbers_of r)
   unfolding tree_of
   next_zero n e ts l = rw n (ap numbers_of (e ∙ entry_zero))
 
-  pub next_one : node ≡ One → {r : Entry} → r ≡ leaf_entry 1 0 → NextOf tree_numbers node list (numbers_of r)
+  pub next_one : node ≡ One → {r : Entry} → r ≡ leaf_entry 1 None → NextOf tree_numbers node list (numbers_of r)
   unfolding tree_of
   next_one n e ts l = rw n (ap numbers_of (e ∙ entry_one))
 
-  pub next_input : {j : ℕ} → node ≡ Input j → {r : Entry} → r ≡ leaf_entry 1 (1 + j) → NextOf tree_numbers node list (numbers_of r)
+  pub next_input : {j : ℕ} → node ≡ Input j → {r : Entry} → r ≡ leaf_entry 1 (Some j) → NextOf tree_numbers node list (numbers_of r)
   unfolding tree_of
   next_input {j} n e ts l = rw n (ap numbers_of (e ∙ entry_input j))
 

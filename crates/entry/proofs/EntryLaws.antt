@@ -1,12 +1,12 @@
 -- Laws of an entry of the count list: it is made of the operands' entries, and its counts are small. Assumes nothing.
-use Prim.Native.Nat.{ℕ, zero, suc, ◌+◌, ◌≤◌, max}
+use Prim.Native.Nat.{ℕ, ◌+◌, ◌≤◌, max}
 use native.Mathlib.Omega.{arith}
-use native.Mathlib.Numerals.{one-add}
 use mathlib.Core.Path.{◌≡◌, refl, sym, ap, ap₂, ◌∙◌}
-use mathlib.Core.Bool.{Bool, true, false, cond}
-use mathlib.Core.Logic.{◌≢◌}
-use mathlib.Core.Option.{Option, none, some}
-use borrow.Author.Tests.{eq-eqb, ne_eqb}
+use mathlib.Core.Bool.{Bool, true, false, cond, false≢true}
+use mathlib.Core.Option as tree
+use lib.Dec.{eqb}
+use Rattle.std.specs.Prelude.{Option, Some, None, is_some, ◌&&◌}
+use Rattle.std.specs.Option.{option_eq}
 use Rattle.wire.specs.Limits.{most_quoted}
 use Rattle.wire.specs.Shown.{shown}
 use Rattle.wire.proofs.ShownLaws.{shown_few, shown_both, shown_more}
@@ -20,7 +20,7 @@ use Rattle.construction.proofs.PoolLaws.{tree_lines_lem, tree_held_lem}
 use Rattle.entry.specs.declared.Tally.{Tally}
 use Rattle.entry.specs.declared.Entry.{Entry}
 use Rattle.entry.specs.declared.OperandCounts.{OperandCounts}
-use Rattle.entry.specs.Entries.{tally_of, input_number, input_in, leaf_entry, operand_from, and_tally, entry_of, SmallTally, SmallEntry, SmallOperand}
+use Rattle.entry.specs.Entries.{tally_of, input_field, input_in, leaf_entry, operand_from, and_tally, entry_of, SmallTally, SmallEntry, SmallOperand}
 
 tally_small : (c : ℕ) (e : Expr) → SmallTally (tally_of c e)
 unfolding tally_of
@@ -38,47 +38,44 @@ small e p =
       lines_few = shown_few most_quoted (tree_lines e 0 1);
     })
 
--- the number of an input says that input
-input_back : (q : Option ℕ) → input_in (input_number q) ≡ q
-unfolding input_number input_in
-input_back none = refl
-input_back (some j) = rw one-add refl
+-- what an entry has of an input says that input
+input_back : (q : tree.Option ℕ) → input_in (input_field q) ≡ q
+unfolding input_field input_in
+input_back tree.none = refl
+input_back (tree.some j) = refl
 
 -- what an operand adds, by what its entry says of an input
-none_added : (n k : ℕ) → n ≢ 0 → operand_count (input_in n) k ≡ 0
+input_adds : (q : Option ℕ) (k : ℕ) → is_some q ≡ true → operand_count (input_in q) k ≡ 0
 unfolding input_in operand_count
-none_added zero k h = absurd (h refl)
-none_added (suc j) k h = refl
+input_adds (Some j) k e = refl
+input_adds None k e = absurd (false≢true e)
 
-pub operand_input : (x : Entry) → x.input ≢ 0 → record { gates = 0; toffolis = 0; held = 0; lines = 0 } ≡ operand_from x
-operand_input x h =
-    let none : (k : ℕ) → operand_count (input_in x.input) k ≡ 0 = λ k. none_added x.input k h in
+other_adds : (q : Option ℕ) (k : ℕ) → is_some q ≡ false → operand_count (input_in q) k ≡ k
+unfolding input_in operand_count
+other_adds (Some j) k e = absurd (false≢true (sym e))
+other_adds None k e = refl
+
+pub operand_input : (x : Entry) → is_some x.input ≡ true → record { gates = 0; toffolis = 0; held = 0; lines = 0 } ≡ operand_from x
+operand_input x e =
+    let none : (k : ℕ) → operand_count (input_in x.input) k ≡ 0 = λ k. input_adds x.input k e in
     rw (none x.gates.built, none x.toffolis.built, none (1 + x.held), none (1 + x.lines)) refl
 
-pub operand_built : (x : Entry) → x.input ≡ 0 → record { gates = x.gates.built; toffolis = x.toffolis.built; held = 1 + x.held; lines = 1 + x.lines } ≡ operand_from x
-unfolding input_in operand_count
-operand_built x e = rw e refl
+pub operand_built : (x : Entry) → is_some x.input ≡ false → record { gates = x.gates.built; toffolis = x.toffolis.built; held = 1 + x.held; lines = 1 + x.lines } ≡ operand_from x
+operand_built x e =
+    let all : (k : ℕ) → operand_count (input_in x.input) k ≡ k = λ k. other_adds x.input k e in
+    rw (all x.gates.built, all x.toffolis.built, all (1 + x.held), all (1 + x.lines)) refl
 
 -- what the gate of an AND counts, by what both entries say
-pub toffoli_built : (m n : ℕ) → m ≡ 0 → and_count 0 (input_in m) (input_in n) ≡ 1
+pub toffolis_are : (x y : Option ℕ) → and_count 0 (input_in x) (input_in y) ≡ cond (is_some x && option_eq eqb x y) 0 1
 unfolding input_in and_count same_input
-toffoli_built m n e = rw e refl
-
-pub toffoli_none : (m n : ℕ) → m ≢ 0 → m ≡ n → and_count 0 (input_in m) (input_in n) ≡ 0
-unfolding input_in and_count same_input
-toffoli_none zero n h e = absurd (h refl)
-toffoli_none (suc i) n h e = rw (← e, eq-eqb i i refl) refl
-
-pub toffoli_other : (m n : ℕ) → m ≢ n → and_count 0 (input_in m) (input_in n) ≡ 1
-unfolding input_in and_count same_input
-toffoli_other zero n h = refl
-toffoli_other (suc i) zero h = refl
-toffoli_other (suc i) (suc j) h = rw (ne_eqb i j (λ e. h (ap suc e))) refl
+toffolis_are None y = refl
+toffolis_are (Some i) None = refl
+toffolis_are (Some i) (Some j) = refl
 
 -- what an operand adds is small
 pub added_small : {x : Entry} {o : OperandCounts} → SmallEntry x → o ≡ operand_from x → (o ≡ operand_from x) × SmallOperand o
 added_small {x} s e =
-    let q : Option ℕ = input_in x.input in
+    let q : tree.Option ℕ = input_in x.input in
     let small : SmallOperand (operand_from x) =
     record {
       gates_few = omega (arith, operand_few q x.gates.built);
@@ -92,7 +89,7 @@ cond_few : (b : Bool) → cond b 0 1 ≤ 1
 cond_few true = omega arith
 cond_few false = omega arith
 
-pub toffoli_few : (q r : Option ℕ) → and_count 0 q r ≤ 1
+pub toffoli_few : (q r : tree.Option ℕ) → and_count 0 q r ≤ 1
 unfolding and_count
 toffoli_few q r = cond_few (same_input q r)
 
@@ -133,17 +130,17 @@ unfolding shown
 shown_again k = omega arith
 
 -- so what an operand adds is, whether it goes by a number or by how that is shown
-made_alike : (q : Option ℕ) (k : ℕ) → shown most_quoted (operand_count q (shown most_quoted k)) ≡ shown most_quoted (operand_count q k)
+made_alike : (q : tree.Option ℕ) (k : ℕ) → shown most_quoted (operand_count q (shown most_quoted k)) ≡ shown most_quoted (operand_count q k)
 unfolding operand_count
-made_alike (some j) k = refl
-made_alike none k = shown_again k
+made_alike (tree.some j) k = refl
+made_alike tree.none k = shown_again k
 
-lines_alike : (q : Option ℕ) (k : ℕ) → shown most_quoted (operand_count q (1 + shown most_quoted k)) ≡ shown most_quoted (operand_lines q k)
+lines_alike : (q : tree.Option ℕ) (k : ℕ) → shown most_quoted (operand_count q (1 + shown most_quoted k)) ≡ shown most_quoted (operand_lines q k)
 unfolding operand_count operand_lines
-lines_alike (some j) k = refl
-lines_alike none k = shown_more most_quoted 1 k
+lines_alike (tree.some j) k = refl
+lines_alike tree.none k = shown_more most_quoted 1 k
 
-tally_made : (c : ℕ) (q : Option ℕ) (e : Expr) {x : Tally} → x ≡ tally_of c e → shown most_quoted (operand_count q x.built) ≡ shown most_quoted (operand_count q (built_count c e))
+tally_made : (c : ℕ) (q : tree.Option ℕ) (e : Expr) {x : Tally} → x ≡ tally_of c e → shown most_quoted (operand_count q x.built) ≡ shown most_quoted (operand_count q (built_count c e))
 unfolding tally_of
 tally_made c q e p = rw p (made_alike q (built_count c e))
 
@@ -169,22 +166,22 @@ module _ (c : ℕ) {x : Tally} (a : Expr) (p : x ≡ tally_of c a) where
         ap₂ (λ (u v : ℕ). record { built = u; undone = v }) all undone
 
 -- an entry from its parts
-whole : (e : Expr) {g t : Tally} {h l i : ℕ} → g ≡ tally_of 1 e → t ≡ tally_of 0 e → h ≡ shown most_quoted (held e) → l ≡ shown most_quoted (most e) → i ≡ input_number (input_of e)
+whole : (e : Expr) {g t : Tally} {h l : ℕ} {i : Option ℕ} → g ≡ tally_of 1 e → t ≡ tally_of 0 e → h ≡ shown most_quoted (held e) → l ≡ shown most_quoted (most e) → i ≡ input_field (input_of e)
     → record { gates = g; toffolis = t; held = h; lines = l; input = i } ≡ entry_of e
 unfolding entry_of
 whole e g t h l i = rw (g, t, h, l, i, tree_held_lem e 0 1, tree_lines_lem e 0 1) refl
 
 -- the leaves have one gate or none, and take no line
-pub entry_zero : leaf_entry 0 0 ≡ entry_of ZERO
-unfolding tally_of built_count undone_count held most shown input_of input_number
+pub entry_zero : leaf_entry 0 None ≡ entry_of ZERO
+unfolding tally_of built_count undone_count held most shown input_of input_field
 entry_zero = whole ZERO refl refl refl refl refl
 
-pub entry_one : leaf_entry 1 0 ≡ entry_of ONE
-unfolding tally_of built_count undone_count held most shown input_of input_number
+pub entry_one : leaf_entry 1 None ≡ entry_of ONE
+unfolding tally_of built_count undone_count held most shown input_of input_field
 entry_one = whole ONE refl refl refl refl refl
 
-pub entry_input : (j : ℕ) → leaf_entry 1 (1 + j) ≡ entry_of (INPUT j)
-unfolding tally_of built_count undone_count held most shown input_of input_number
+pub entry_input : (j : ℕ) → leaf_entry 1 (Some j) ≡ entry_of (INPUT j)
+unfolding tally_of built_count undone_count held most shown input_of input_field
 entry_input j = whole (INPUT j) refl refl refl refl refl
 
 -- an entry's parts
@@ -224,8 +221,8 @@ module _ {x : Entry} (e : Expr) (p : x ≡ entry_of e) where
 pub entry_not : {x : Entry} (a : Expr) → x ≡ entry_of a → {g t : Tally}
     → g ≡ record { built = shown most_quoted (1 + x.gates.built); undone = x.gates.undone }
     → t ≡ record { built = shown most_quoted (0 + x.toffolis.built); undone = x.toffolis.undone }
-    → record { gates = g; toffolis = t; held = x.held; lines = x.lines; input = 0 } ≡ entry_of (NOT a)
-unfolding most held input_of input_number
+    → record { gates = g; toffolis = t; held = x.held; lines = x.lines; input = None } ≡ entry_of (NOT a)
+unfolding most held input_of input_field
 entry_not a p g t = whole (NOT a) (g ∙ tally_not 1 a (gates a p)) (t ∙ tally_not 0 a (toffolis a p)) (lines_held a p) (lines a p) refl
 
 module _ {x y : Entry} (a b : Expr) (p : x ≡ entry_of a) (q : y ≡ entry_of b) where
@@ -234,8 +231,8 @@ module _ {x y : Entry} (a b : Expr) (p : x ≡ entry_of a) (q : y ≡ entry_of b
       → t ≡ record { built = shown most_quoted (x.toffolis.built + y.toffolis.built); undone = shown most_quoted (x.toffolis.undone + y.toffolis.undone) }
       → h ≡ shown most_quoted (x.held + y.held)
       → l ≡ shown most_quoted (max x.lines (x.held + y.lines))
-      → record { gates = g; toffolis = t; held = h; lines = l; input = 0 } ≡ entry_of (XOR a b)
-  unfolding most held input_of input_number
+      → record { gates = g; toffolis = t; held = h; lines = l; input = None } ≡ entry_of (XOR a b)
+  unfolding most held input_of input_field
   entry_xor g t h l =
       whole (XOR a b)
       (g ∙ tally_xor 1 a (gates a p) b (gates b q))
@@ -249,8 +246,8 @@ module _ {x y : Entry} (a b : Expr) (p : x ≡ entry_of a) (q : y ≡ entry_of b
       → t ≡ and_tally m k (o.toffolis + u.toffolis)
       → h ≡ shown most_quoted (cond m 0 (o.held + u.held))
       → l ≡ shown most_quoted (max o.lines (o.held + u.lines))
-      → record { gates = g; toffolis = t; held = h; lines = l; input = 0 } ≡ entry_of (AND m a b)
-  unfolding most held input_of input_number
+      → record { gates = g; toffolis = t; held = h; lines = l; input = None } ≡ entry_of (AND m a b)
+  unfolding most held input_of input_field
   entry_and m eo eu ek g t h l =
       let first = made a p eo in
       let second = made b q eu in

@@ -1,6 +1,6 @@
 -- The numbers that the count list has for a node, said of the node's tree; for the steps of quoting only.
-use Rattle.std.specs.Prelude.{ℕ, zero, suc, ◌+◌, ◌≤◌, Bool}
-use Rattle.std.proofs.Math.Option.{Option, none, some}
+use Rattle.std.specs.Prelude.{ℕ, ◌+◌, ◌≤◌, Bool, Option, Some, None}
+use Rattle.std.proofs.Math.Option as tree
 use Rattle.wire.specs.Limits.{most_quoted}
 use Rattle.wire.specs.Shown.{shown}
 use Rattle.node.specs.Exprs.{Expr}
@@ -15,15 +15,15 @@ use Rattle.entry.specs.declared.OperandCounts.{OperandCounts}
 unfoldable pub tally_of : ℕ → Expr → Tally
 tally_of c e = record { built = shown most_quoted (built_count c e); undone = shown most_quoted (undone_count c e) }
 
--- an input as one number: 1 more than its own, and 0 for none
-unfoldable pub input_number : Option ℕ → ℕ
-input_number none = 0
-input_number (some j) = 1 + j
+-- the input that a tree is, as an entry has it
+unfoldable pub input_field : tree.Option ℕ → Option ℕ
+input_field tree.none = None
+input_field (tree.some j) = Some j
 
--- the input that such a number says
-unfoldable pub input_in : ℕ → Option ℕ
-input_in zero = none
-input_in (suc j) = some j
+-- the input that an entry says its tree is
+unfoldable pub input_in : Option ℕ → tree.Option ℕ
+input_in None = tree.none
+input_in (Some j) = tree.some j
 
 -- the entry of a node with this tree; it holds and takes as many lines on every target and with every first work line, so target 0 and work lines from 1 on stand for all
 unfoldable pub entry_of : Expr → Entry
@@ -33,11 +33,11 @@ entry_of e =
       toffolis = tally_of 0 e;
       held = shown most_quoted (tree_held e 0 1);
       lines = shown most_quoted (tree_lines e 0 1);
-      input = input_number (input_of e);
+      input = input_field (input_of e);
     }
 
--- the entry of a leaf with so many gates, and the number that says its input
-abbrev pub leaf_entry : ℕ → ℕ → Entry
+-- the entry of a leaf with so many gates, and the input that it is
+abbrev pub leaf_entry : ℕ → Option ℕ → Entry
 leaf_entry gates input =
     record {
       gates = record { built = gates; undone = 0 };

@@ -7,7 +7,9 @@ use mathlib.Core.List.{List, ◌++◌, map}
 use lib.ListN.{length, get_or, drop, get_or-append}
 use lib.Dec.{leb, ltb}
 use borrow.Author.Tests.{le-leb, lt-leb, lt-ltb, le-ltb, leb-true, ltb-true}
-use Rattle.refusal.specs.Answers.{Answer, result, refused, refuse, check, and_then, map_answer}
+use Rattle.std.specs.Prelude.{Result, Ok, Err}
+use Rattle.refusal.specs.declared.causes.Refusal.{Refusal}
+use Rattle.refusal.specs.Answers.{Answer, answer_of, result, refused, refuse, check, and_then, map_answer}
 use Rattle.refusal.specs.declared.causes.Refusal.TheVariants as cause
 use Rattle.refusal.proofs.AnswerLaws.{came, led, checked, checked_next, same_result}
 use Rattle.contents.specs.Contents.{body_of}
@@ -18,9 +20,9 @@ use Rattle.node.specs.Steps.{Fillable}
 use Rattle.node.specs.Trees.{trees}
 use Rattle.node.proofs.FilledLaws.{entries_length, entry_at}
 use Rattle.program.specs.declared.reader.Head.{Head}
-use Rattle.program.specs.Programs.{Program, output_tree}
+use Rattle.program.specs.Programs.{Program, head_of, output_tree}
 use Rattle.program.specs.Reading.{output_at, program_of, read_program}
-use Rattle.program.proofs.AcceptedLaws.{Read, same_nodes, inputs_is}
+use Rattle.program.proofs.AcceptedLaws.{Read, read, read_refused, same_nodes, inputs_is}
 use Rattle.program.proofs.BodyLaws.{body_nodes, body_outputs, names_node, named_tree, head_inputs, head_outputs, head_nodes}
 use Rattle.program.proofs.BodyLaws as bodies
 
@@ -89,8 +91,8 @@ module _ (f : Expr → ℕ) (test : ℕ → Bool) (file list : List ℕ) (k : �
     pub evaluable : Evaluable test file (length list) k program
     pub number_is : v ≡ f (output_tree program k)
 
-  pub answer_of : {v : ℕ} {l : List ℕ} → Outcome (result v) l → AnswerOf v
-  answer_of {v} o =
+  pub answered : {v : ℕ} {l : List ℕ} → Outcome (result v) l → AnswerOf v
+  answered {v} o =
       let c = came (λ p. f (output_tree p k)) (asked test file (length list) k) v o.answer in
       record {
         program = c.from;
@@ -169,3 +171,57 @@ module _ (f : Expr → ℕ) (test : ℕ → Bool) (file list : List ℕ) (k : �
           let same : all ++ rest ≡ map f (trees (program_of file).nodes) ++ drop (length (program_of file).nodes) list =
           ap₂ (λ (ns : List Node) (n : ℕ). map f (trees ns) ++ drop n list) (same_nodes file r.accepts) (body_nodes file r.accepts) in
           record { answer = rw found (ap result number_is); list_left = rw found (w ∙ same) }
+
+-- a service with this answer, and this list at first and at exit, refuses for this cause
+abbrev pub Refuses : Refusal → Answer ℕ → List ℕ → List ℕ → Type 0
+Refuses why a list l = (refuse why ≡ a) × (list ≡ l)
+
+-- a service whose answer and list at exit are those that the checks lead to, by what the reader answered it
+module _ {f : Expr → ℕ} {test : ℕ → Bool} {file list : List ℕ} {k : ℕ} {a : Answer ℕ} {l : List ℕ} (o : Outcome f test file list k a l)
+    {r : Result Head Refusal} (said : answer_of r ≡ map_answer head_of (read_program file)) where
+  -- the reader's refusal is passed on
+  pub reader_passed : {why : Refusal} → r ≡ Err why → Refuses why a list l
+  reader_passed g = same_outcome f test file list k (reader_refuses f test file list k _ _ (read_refused file said g)) o
+
+  module _ {h : Head} (g : r ≡ Ok h) where
+    good : Read file h
+    good = read file said g
+
+    pub list_refused : length list < h.nodes → Refuses cause.ListLength a list l
+    list_refused s = same_outcome f test file list k (list_short f test file list k good s) o
+
+    module _ (room : h.nodes ≤ length list) where
+      pub inputs_refused : test h.inputs ≡ false → Refuses cause.InputBytes a list l
+      inputs_refused t = same_outcome f test file list k (inputs_bad f test file list k good room t) o
+
+      module _ (tested : test h.inputs ≡ true) where
+        pub output_refused : h.outputs ≤ k → Refuses cause.OutputNumber a list l
+        output_refused s = same_outcome f test file list k (output_bad f test file list k good room tested s) o
+
+        -- every check has passed
+        module _ (there : k < h.outputs) where
+          ready : Ready f test file list k good
+          ready = record { room = room; tested = tested; output = there }
+
+          -- the nodes can be evaluated on so many inputs
+          pub fills : {n : ℕ} {body : List ℕ} → n ≡ h.inputs → body ≡ body_of file 1 → Fillable n body (length list)
+          fills e b = rw b (fillable f test file list k good ready e)
+
+          -- the output's entry is there
+          module _ {outputs : List ℕ} (b : outputs ≡ body_of file 2) where
+            pub entry_there : 2 * (k + 1) ≤ length outputs
+            entry_there = rw b (output_there f test file list k good ready)
+
+            -- and the node that it names, in a list of the same length
+            module _ {i : ℕ} (named : i ≡ output_at outputs k) where
+              pub named_inside : {n : ℕ} → n ≡ length list → i < n
+              named_inside e =
+                  let is : output_at outputs k ≡ output_at (body_of file 2) k = rw b refl in
+                  omega (arith, e, named, is, node_there f test file list k good ready)
+
+              -- in a filled list that is the answer
+              pub answers : {body left : List ℕ} → body ≡ body_of file 1 → left ≡ map f (trees (nodes_in body)) ++ drop (length body / 6) list → (result (get_or left i 0) ≡ a) × (left ≡ l)
+              answers {body} {left} z w =
+                  let is : i ≡ output_at (body_of file 2) k = named ∙ rw b refl in
+                  let same = same_outcome f test file list k (output_found f test file list k good ready left (rw z at w)) o in
+                  (ap (λ (j : ℕ). result (get_or left j 0)) is ∙ same.0, same.1)

@@ -1,13 +1,11 @@
 -- Evaluating an output, check by check in the order of 01's table.
 use Rattle.std.specs.Prelude.{ℕ, List, ◌++◌, length, drop, leb, ltb}
-use Rattle.refusal.specs.Answers.{Answer, result, refused, refuse, check, and_then, map_answer}
+use Rattle.refusal.specs.Answers.{Answer, result, refused, check, and_then, map_answer}
 use Rattle.wire.specs.Bits.{bits_fit}
 use Rattle.refusal.specs.declared.causes.Refusal.TheVariants as cause
 use Rattle.program.specs.Programs.{Program, output_value}
 use Rattle.node.specs.Trees.{node_values}
 use Rattle.program.specs.Reading.{read_program}
-use Rattle.evaluate.specs.declared.Evaluated.{Evaluated}
-use Rattle.evaluate.specs.declared.Evaluated.TheVariants.{Value, Refused}
 
 -- the program of a file whose output can be evaluated on these input bytes, with a value list of so many entries
 unfoldable pub evaluate_file : List ℕ → ℕ → List ℕ → ℕ → Answer Program
@@ -35,8 +33,3 @@ evaluate_of file list inputs output =
       answer = map_answer (λ p. output_value p inputs output) (evaluate_file file (length list) inputs output);
       values = values_after (evaluate_file file (length list) inputs output) inputs list;
     }
-
--- the service's answer in 01's terms: the output's value, or a number and a place
-abbrev pub evaluated : Evaluated → Answer ℕ
-evaluated (Value bit) = result bit
-evaluated (Refused why) = refuse why

@@ -4,50 +4,38 @@
 mod values;
 
 ghost use Rattle.std.specs.Prelude.{◌≡◌};
-ghost use Rattle.evaluate.specs.Evaluating.{evaluate_of, evaluated};
+ghost use Rattle.refusal.specs.Answers.{answer_of};
+ghost use Rattle.evaluate.specs.Evaluating.{evaluate_of};
 
 use crate::values::fill_values;
-use program::reader::{ProgramRead, node_body, output_at, output_body, read_program};
+use program::reader::{node_body, output_at, output_body, read_program};
 use refusal::causes::Refusal;
 use wire::bits::bits_fit;
 
-// What evaluating an output answers.
-#[derive(Clone, Copy)]
-pub enum Evaluated {
-    Value(u8),
-    Refused(Refusal),
-}
-
-// The reader's refusal, passed on.
-fn refused(answer: ProgramRead) -> Evaluated
-    ensures { (why : Refusal) → answer ≡ ProgramRead.Refused why → result ≡ Evaluated.Refused why }
-{
-    match answer {
-        ProgramRead::Refused(why) => Evaluated::Refused(why),
-        ProgramRead::Good(_) => Evaluated::Refused(Refusal::Table),
-    }
-}
-
 // The value of an output of a program file on the input bytes. The value list is filled with every
 // node's value; on a refusal it is as it was.
-pub fn evaluate(file: &[u8], values: &mut [u8], inputs: &[u8], output: u64) -> Evaluated
-    ensures result_value { evaluated result ≡ (evaluate_of file.now values.old inputs.now output).answer }
+//
+// This and evaluate_words are two functions, as each has a test of the inputs of its own, on which
+// its fold stands: one function for both would have the fold made by a closure between its checks,
+// which is no plainer. Their laws are the same (AskedLaws).
+pub fn evaluate(file: &[u8], values: &mut [u8], inputs: &[u8], output: u64) -> Result<u8, Refusal>
+    ensures result_value { answer_of result ≡ (evaluate_of file.now values.old inputs.now output).answer }
     ensures values_after { values.new ≡ (evaluate_of file.now values.old inputs.now output).values }
 {
-    let answer = read_program(file);
-    let ProgramRead::Good(head) = answer else {
-        return refused(answer);
+    // Document 01 names this form: the reader's answer taken apart by let .. else.
+    let read = read_program(file);
+    let Ok(head) = read else {
+        return Err(read.unwrap_err());
     };
     if values.len() < head.nodes {
-        return Evaluated::Refused(Refusal::ListLength);
+        return Err(Refusal::ListLength);
     }
     if !bits_fit(inputs, head.inputs) {
-        return Evaluated::Refused(Refusal::InputBytes);
+        return Err(Refusal::InputBytes);
     }
     if head.outputs as u64 <= output {
-        return Evaluated::Refused(Refusal::OutputNumber);
+        return Err(Refusal::OutputNumber);
     }
     fill_values(node_body(file), inputs, values);
-    let node = output_at(output_body(file), output as usize);
-    Evaluated::Value(values[node])
+    Ok(values[output_at(output_body(file), output as usize)])
 }

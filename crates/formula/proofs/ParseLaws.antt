@@ -8,6 +8,7 @@ use lib.ListN.{length, take}
 use lib.Seq.{length-take-le}
 use lib.Dec.{leb}
 use borrow.Author.Tests.{le-leb, lt-leb}
+use Rattle.std.specs.Prelude.{Ok, Err}
 use Rattle.refusal.specs.Answers.{Answer, result, refuse, check, map_answer, number_of, place_of}
 use Rattle.refusal.specs.declared.causes.Refusal.{Refusal}
 use Rattle.refusal.specs.declared.causes.Refusal.TheVariants as cause
@@ -22,8 +23,6 @@ use Rattle.grammar.specs.FormulaNodes.{sum_nodes, formula_program}
 use Rattle.grammar.proofs.CountLaws.{sum_nodes_lem, some_sum}
 use Rattle.automaton.specs.Automaton.{read_text}
 use Rattle.automaton.proofs.AnswerLaws.{read_rest_lem, reader_room}
-use Rattle.emitter.specs.declared.Read.{Read}
-use Rattle.emitter.specs.declared.Read.TheVariants.{End, Bad}
 use Rattle.parsing.specs.Parsing.{parse_text, parse_of}
 use Rattle.program_writer.specs.OneOutput.{body_file, body_file_length, FewNodes}
 use Rattle.program_writer.proofs.BodyFileLaws.{body_file_length_lem}
@@ -51,17 +50,15 @@ module _ (text : List ℕ) (n : ℕ) (area : List ℕ) where
     unfolding read_text
     inputs_many h = outcome_refused cause.Range (rw (le-leb (length text) most_text short, lt-leb n most_inputs h) refl)
 
-    module _ (few : n ≤ most_inputs) (old new : List ℕ) (r : Read) (h : WholeRead n text old new r) where
-      pub text_bad : (why : Refusal) → r ≡ Bad why → Outcome (refuse why) area
+    module _ (few : n ≤ most_inputs) (old new : List ℕ) where
+      pub text_bad : (why : Refusal) → WholeRead n text old new (Err why) → Outcome (refuse why) area
       unfolding WholeRead
-      text_bad why q =
-          let g : WholeRead n text old new (Bad why) = rw q at h in
-          outcome_refused why (read_rest_lem n text short few ∙ g)
+      text_bad why h = outcome_refused why (read_rest_lem n text short few ∙ h)
 
-      module _ {e made : ℕ} (q : r ≡ End e made) where
+      module _ (made : ℕ) (h : WholeRead n text old new (Ok made)) where
         whole : WholeEnd n text old new made
         unfolding WholeRead
-        whole = rw q at h
+        whole = h
 
         reads : read_text n text ≡ result whole.tree
         reads = read_rest_lem n text short few ∙ whole.reads

@@ -7,6 +7,7 @@ use mathlib.Core.Path.{◌≡◌, refl, ap, ◌∙◌}
 use mathlib.Core.Logic.{◌≢◌}
 use mathlib.Core.List.{List}
 use lib.ListN.{length, get_or, drop_of_length-le}
+use Rattle.std.specs.Prelude.{Ok, Err}
 use Rattle.refusal.specs.declared.causes.Refusal.{Refusal}
 use Rattle.refusal.specs.declared.causes.Refusal.TheVariants as cause
 use Rattle.wire.specs.Limits.{most_text, most_open}
@@ -17,8 +18,7 @@ use Rattle.automaton.specs.States.{outermost, open_sum, made_sum, initial}
 use Rattle.automaton.specs.Automaton.{sum_with, outside_product, stop, read_closing, read_behind, read_byte, finish_sum, read_rest}
 use Rattle.scanner.specs.Scanning.{Goes}
 use Rattle.scanner.proofs.PlaceLaws.{stops_byte, goes_refuses}
-use Rattle.emitter.specs.declared.Read.{Read}
-use Rattle.emitter.specs.declared.Read.TheVariants.{End, Bad}
+use Rattle.emitter.specs.declared.Part.{Part}
 use Rattle.descent.specs.Readers.{sum_read, SumEnd, SumRead}
 use Rattle.descent.proofs.FactorLaws.{sum_stop, sum_finish}
 use Rattle.formula.specs.Steps.{WholeRead}
@@ -37,27 +37,24 @@ whole_stop t b h₁ h₂ = by (ℕ_discrete b closing)
     by (no e) = sum_stop t outermost b h₁ h₂ e
 
 module _ (n : ℕ) (text old new : List ℕ) where
-  pub whole_bad : (r : Read) {why : Refusal} → SumRead n text 0 most_open 0 old new r → r ≡ Bad why → WholeRead n text old new r
+  pub whole_bad : (why : Refusal) → SumRead n text 0 most_open 0 old new (Err why) → WholeRead n text old new (Err why)
   unfolding SumRead WholeRead open_sum made_sum
-  whole_bad r {why} h q =
-      let g : SumRead n text 0 most_open 0 old new (Bad why) = rw q at h in
-      let k : WholeRead n text old new (Bad why) = (g outermost refl refl).on in
-      rw q k
+  whole_bad why h = (h outermost refl refl).on
 
-  module _ (r : Read) {e made : ℕ} (h : SumRead n text 0 most_open 0 old new r) (q : r ≡ End e made) where
-    inner : SumEnd n text 0 most_open 0 old new e made
+  module _ (read : Part) (h : SumRead n text 0 most_open 0 old new (Ok read)) where
+    inner : SumEnd n text 0 most_open 0 old new read.end read.made
     unfolding SumRead
-    inner = rw q at h
+    inner = h
 
-    goes : Goes n text initial 0 (sum_read inner.so.tree outermost) e
+    goes : Goes n text initial 0 (sum_read inner.so.tree outermost) read.end
     unfolding open_sum made_sum
     goes = inner.so.goes outermost refl refl
 
-    pub whole_more : e < length text → WholeRead n text old new (Bad (cause.Text e))
+    pub whole_more : read.end < length text → WholeRead n text old new (Err (cause.Text read.end))
     unfolding WholeRead
-    whole_more l = (goes_refuses n text goes (stops_byte n text l (whole_stop inner.so.tree (get_or text e 0) inner.so.no_and inner.no_caret))).on
+    whole_more l = (goes_refuses n text goes (stops_byte n text l (whole_stop inner.so.tree (get_or text read.end 0) inner.so.no_and inner.no_caret))).on
 
-    pub whole_end : length text ≤ most_text → length text ≤ e → WholeRead n text old new (End e made)
+    pub whole_end : length text ≤ most_text → length text ≤ read.end → WholeRead n text old new (Ok read.made)
     unfolding WholeRead read_rest finish_sum
     whole_end short l =
         record {

@@ -1,9 +1,9 @@
 -- Laws of well-formed gates. Assumes nothing.
 use Prim.Native.Nat.{ℕ, ◌<◌}
 use native.Mathlib.Omega.{arith}
-use mathlib.Core.Path.{◌≡◌, refl, sym, ap, ap₂, ◌∙◌}
+use mathlib.Core.Path.{◌≡◌, refl, sym, ap, ◌∙◌}
 use mathlib.Core.Logic.{◌≢◌}
-use mathlib.Core.Bool.{Bool, true, false, not, ◌&&◌, and-false}
+use mathlib.Core.Bool.{Bool, true, false, not, ◌&&◌, and-false, and_assoc}
 use lib.Dec.{eqb, ltb}
 use borrow.Author.Tests.{ltb-true, lt-ltb, ne_eqb, eqb-false, not-true}
 use Rattle.refusal.proofs.CheckLaws.{both_first, both_second}
@@ -101,17 +101,10 @@ module _ (L : ℕ) where
       go true false e f = rw (and-false (ltb a L)) refl
       go false y e f = and-false (y && bounded)
 
-  pub toffoli_tests : (a b t : ℕ) {below ends apart r : Bool}
-      → below ≡ (ltb b L && ltb t L)
-      → ends ≡ (not (eqb a t) && not (eqb b t))
-      → apart ≡ (ltb a b && ends)
-      → r ≡ (below && apart)
-      → r ≡ well_formed L (Toffoli a b t)
+  pub toffoli_tests : (a b t : ℕ) → (((ltb b L && ltb t L) && ltb a b) && (not (eqb a t) && not (eqb b t))) ≡ well_formed L (Toffoli a b t)
   unfolding well_formed lower_first lines_fit
-  toffoli_tests a b t e₁ e₂ e₃ e₄ =
-      e₄
-      ∙ ap₂ ◌&&◌ e₁ (e₃ ∙ ap (λ (x : Bool). ltb a b && x) e₂)
-      ∙ first_fits a b (ltb t L) (not (eqb a t) && not (eqb b t))
+  toffoli_tests a b t =
+      and_assoc (ltb b L && ltb t L) (ltb a b) (not (eqb a t) && not (eqb b t)) ∙ first_fits a b (ltb t L) (not (eqb a t) && not (eqb b t))
 
   -- gates on such lines are well formed, a Toffoli's lower control first
   pub not_formed : (t : ℕ) → t < L → WellFormed L (Not t)

@@ -2,10 +2,8 @@
 ghost use Rattle.std.specs.Prelude.{◌≡◌};
 ghost use Rattle.gate.specs.Gates.{target, well_formed};
 
-use refusal::checks::both;
-
 // A gate with its lines.
-#[derive(Clone, Copy)]
+#[derive(Clone, Copy, Debug, PartialEq, Eq)]
 pub enum Gate {
     Not {
         target: u16,
@@ -21,41 +19,39 @@ pub enum Gate {
     },
 }
 
-// The line that a gate changes.
-pub fn target_of(gate: Gate) -> u16
-    ensures { result ≡ target gate }
-{
-    match gate {
-        Gate::Not { target } => target,
-        Gate::Cnot { control, target } => target,
-        Gate::Toffoli {
-            first,
-            second,
-            target,
-        } => target,
-    }
-}
-
-// Whether the gate's lines are below the number of lines and all different, a Toffoli's lower
-// control first.
-pub fn well_formed(gate: Gate, lines: usize) -> bool
-    ensures { result ≡ well_formed lines gate }
-{
-    match gate {
-        Gate::Not { target } => (target as usize) < lines,
-        Gate::Cnot { control, target } => {
-            let below = both((control as usize) < lines, (target as usize) < lines);
-            both(below, control != target)
+impl Gate {
+    // The line that the gate changes.
+    pub fn target(self) -> u16
+        ensures { result ≡ target self }
+    {
+        match self {
+            Gate::Not { target } => target,
+            Gate::Cnot { target, .. } => target,
+            Gate::Toffoli { target, .. } => target,
         }
-        Gate::Toffoli {
-            first,
-            second,
-            target,
-        } => {
-            // The first control is below the second, and with it below the number of lines.
-            let below = both((second as usize) < lines, (target as usize) < lines);
-            let apart = both(first != target, second != target);
-            both(below, both(first < second, apart))
+    }
+
+    // Whether the gate's lines are below the number of lines and all different, a Toffoli's lower
+    // control first. The tests are cheap: `&` makes them all, without a branch for each.
+    pub fn is_well_formed(self, lines: usize) -> bool
+        ensures { result ≡ well_formed lines self }
+    {
+        match self {
+            Gate::Not { target } => (target as usize) < lines,
+            Gate::Cnot { control, target } => {
+                let below = ((control as usize) < lines) & ((target as usize) < lines);
+                below & (control != target)
+            }
+            Gate::Toffoli {
+                first,
+                second,
+                target,
+            } => {
+                // The first control is below the second, and with it below the number of lines.
+                let below = ((second as usize) < lines) & ((target as usize) < lines);
+                let apart = (first != target) & (second != target);
+                below & (first < second) & apart
+            }
         }
     }
 }

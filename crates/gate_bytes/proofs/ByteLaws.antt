@@ -1,26 +1,12 @@
 -- Laws of the bytes of gates. Assumes nothing.
-use Prim.Native.Nat.{ℕ, ◌+◌, ◌*◌}
+use Prim.Native.Nat.{ℕ, ◌*◌}
 use mathlib.Core.Path.{◌≡◌, refl, sym, ap, ◌∙◌}
 use mathlib.Core.List.{List, [], ◌∷◌, ◌++◌, append_assoc, flat_map}
-use lib.ListN.{length, set}
-use lib.Seq.{sets}
-use Rattle.wire.specs.Bytes.{bytes16}
-use Rattle.wire.proofs.ByteLaws.{fields_stored}
-use Rattle.wire.proofs.ListLaws.{sets_then, flat_length}
+use lib.ListN.{length}
+use Rattle.wire.proofs.ListLaws.{flat_length}
 use Rattle.gate.specs.declared.gates.Gate.{Gate}
 use Rattle.gate.specs.declared.gates.Gate.TheVariants.{Not, Cnot, Toffoli}
-use Rattle.gate_bytes.specs.GateBytes.{field_bytes, gate_bytes, gates_bytes}
-
--- the stores of a gate's fields, one after the other, are one run
-pub field_stores : (l : List ℕ) (at kind a b t : ℕ) {l₁ l₂ l₃ : List ℕ}
-    → l₁ ≡ sets (set (set l at kind) (at + 1) 0) (at + 2) (bytes16 a)
-    → l₂ ≡ sets l₁ (at + 4) (bytes16 b)
-    → l₃ ≡ sets l₂ (at + 6) (bytes16 t)
-    → l₃ ≡ sets l at (field_bytes kind a b t)
-field_stores l at kind a b t e₁ e₂ e₃ =
-    e₃
-    ∙ ap (λ (x : List ℕ). sets x (at + 6) (bytes16 t)) (fields_stored l at kind 0 a b e₁ e₂)
-    ∙ sets_then l at (at + 6) (kind ∷ 0 ∷ (bytes16 a ++ bytes16 b)) (bytes16 t) refl
+use Rattle.gate_bytes.specs.GateBytes.{gate_bytes, gates_bytes}
 
 -- a gate takes eight bytes
 pub gate_length : (g : Gate) → length (gate_bytes g) ≡ 8

@@ -2,7 +2,7 @@
 use Prim.Native.Nat.{ℕ, ◌+◌, ◌*◌, ◌<◌}
 use native.Mathlib.Omega.{arith}
 use mathlib.Core.Path.{◌≡◌, refl, sym, ap, ap₂, ◌∙◌}
-use mathlib.Core.Bool.{true, false}
+use mathlib.Core.Bool.{Bool, true, false, ◌&&◌}
 use mathlib.Core.List.{List}
 use lib.ListN.{get_or}
 use lib.Dec.{eqb}
@@ -16,7 +16,8 @@ use Rattle.gate_bytes.specs.declared.reader.GateRead.{GateRead}
 use Rattle.gate_bytes.specs.declared.reader.GateRead.TheVariants.{Good, Bad}
 use Rattle.gate.specs.Gates.{target, well_formed, WellFormed}
 use Rattle.gate_bytes.specs.GateBytes.{gate_of, fields_fit, gate_at, gate_fits}
-use Rattle.gate_bytes.specs.Steps.{read_gate, gate_read}
+use Rattle.gate_bytes.specs.declared.fields.Fields.{Fields}
+use Rattle.gate_bytes.specs.Steps.{fields_at, read_gate, gate_read}
 
 module _ (L : ℕ) (body : List ℕ) (i : ℕ) where
   module _ {r : GateRead} (e : gate_read r ≡ read_gate L body i) where
@@ -41,6 +42,17 @@ module _ (L : ℕ) (body : List ℕ) (i : ℕ) where
       both_second
       (fields_fit (get_or body (8 * i) 0) (get_or body (8 * i + 1) 0) (at16 body (8 * i + 2)) (at16 body (8 * i + 4)))
       (well_formed L (gate_at body i)) e
+
+-- the gate that is made of fields read, and the test of it
+pub gate_read_at : (body : List ℕ) (i : ℕ) {f : Fields} {g : Gate} → f ≡ fields_at body i → g ≡ gate_of f.kind f.first f.second f.target → g ≡ gate_at body i
+unfolding gate_at
+gate_read_at body i e h = h ∙ ap (λ (f : Fields). gate_of f.kind f.first f.second f.target) e
+
+pub fits_read : (L : ℕ) (body : List ℕ) (i : ℕ) {f : Fields} {g : Gate} {fit formed : Bool} → f ≡ fields_at body i → g ≡ gate_of f.kind f.first f.second f.target
+    → fit ≡ fields_fit f.kind f.blank f.first f.second → formed ≡ well_formed L g → (fit && formed) ≡ gate_fits L body i
+unfolding gate_fits
+fits_read L body i e h fits formed =
+    ap₂ ◌&&◌ (fits ∙ ap (λ (f : Fields). fields_fit f.kind f.blank f.first f.second) e) (formed ∙ ap (well_formed L) (gate_read_at body i e h))
 
 -- a gate's target stands in the same field, whatever its kind
 pub target_field : (body : List ℕ) (i : ℕ) → target (gate_at body i) ≡ at16 body (8 * i + 6)

@@ -4,7 +4,7 @@ use native.Mathlib.Omega.{arith}
 use native.Mathlib.Nat.{pow-le-pow_right}
 use mathlib.Core.Path.{◌≡◌, refl, sym, ap, ◌∙◌}
 use mathlib.Core.Bool.{Bool, true, false, false≢true}
-use mathlib.Core.List.{[], ◌∷◌}
+use mathlib.Core.List.{List, [], ◌∷◌}
 use lib.Dec.{leb, ltb}
 use lib.ListN.{length, length-append}
 use borrow.Author.Tests.{le-leb, lt-leb, leb-true, leb-false, ltb-true, ltb-false}
@@ -70,9 +70,9 @@ module _ (n r : ℕ) (f : IsDigitCount 10 1 n r) where
       (lt-leb (10 ^ r) n f.1)
 
   -- and those digits are the number in decimal
-  pub decimal_is : n < 10 ^ 20 → last_digits 10 r n ≡ decimal n
+  pub decimal_is : n < 10 ^ 20 → {digits : List ℕ} → digits ≡ last_digits 10 r n → digits ≡ decimal n
   unfolding decimal
-  decimal_is h = ap (λ (k : ℕ). last_digits 10 k n) (sym (digits_are h))
+  decimal_is h e = e ∙ ap (λ (k : ℕ). last_digits 10 k n) (sym (digits_are h))
 
 -- a number below 10 ^ k takes at most k digits
 digits_below : (n k : ℕ) → 1 ≤ k → n < 10 ^ k → digit_count n ≤ k

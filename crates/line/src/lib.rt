@@ -1,5 +1,4 @@
-// A line of text put into a lent buffer: a word and numbers, and that of a refusal. Each function
-// answers where its text ends.
+// A line of text put into a lent buffer: a word and numbers, and that of a refusal.
 #![tactic(auto)]
 
 ghost use mathlib.Core.List.{flat_map};
@@ -8,56 +7,63 @@ ghost use Rattle.line.specs.Lines.{field, line, refused_line};
 ghost use Rattle.line.specs.Putting.{Put, TextFits};
 
 use refusal::causes::Refusal;
-use wire::areas::store;
 
-// Puts a word.
-pub fn put_word(out: &mut [u8], at: usize, word: &[u8]) -> usize
-    requires { TextFits word.now at out.old }
-    ensures { Put word.now at result out.old out.new }
-{
-    store(out, at, word);
-    at + word.len()
+// A lent buffer and where the text in it ends: each method puts its text there. There is no heap,
+// so the text is no String.
+#[derive(Drop)]
+pub struct LineWriter<'a> {
+    pub out: &'a mut [u8],
+    pub end: usize,
 }
 
-// Puts one blank and a number in decimal.
-fn put_field(out: &mut [u8], at: usize, n: u64) -> usize
-    requires { TextFits (field n) at out.old }
-    ensures { Put (field n) at result out.old out.new }
-{
-    let mut digits = [0u8; 20];
-    let count = io::decimal(n, &mut digits);
-    out[at] = b' ';
-    put_word(out, at + 1, &digits[..count])
-}
-
-// Puts a field for each number.
-pub fn put_numbers(out: &mut [u8], at: usize, numbers: &[u64]) -> usize
-    requires { TextFits (flat_map field numbers.now) at out.old }
-    ensures { Put (flat_map field numbers.now) at result out.old out.new }
-{
-    let mut end = at;
-    let mut i = 0;
-    while i < numbers.len() {
-        end = put_field(out, end, numbers[i]);
-        i += 1;
+impl LineWriter<'_> {
+    // Puts a word.
+    pub fn put_word(&mut self, word: &[u8])
+        requires { TextFits word.now self.old }
+        ensures { Put word.now self.old self.new }
+    {
+        let end = self.end + word.len();
+        self.out[self.end..end].copy_from_slice(word);
+        self.end = end;
     }
-    end
-}
 
-// Puts a line: a word, a field for each number, and a newline.
-pub fn put_line(out: &mut [u8], at: usize, word: &[u8], numbers: &[u64]) -> usize
-    requires { TextFits (line word.now numbers.now) at out.old }
-    ensures { Put (line word.now numbers.now) at result out.old out.new }
-{
-    let after_word = put_word(out, at, word);
-    let after_numbers = put_numbers(out, after_word, numbers);
-    put_word(out, after_numbers, b"\n")
-}
+    // Puts one blank and a number in decimal.
+    fn put_field(&mut self, n: u64)
+        requires { TextFits (field n) self.old }
+        ensures { Put (field n) self.old self.new }
+    {
+        let mut digits = [0u8; 20];
+        let count = io::decimal(n, &mut digits);
+        self.put_word(b" ");
+        self.put_word(&digits[..count]);
+    }
 
-// Puts the line of a refusal: its number and its place.
-pub fn put_refusal(out: &mut [u8], at: usize, why: Refusal) -> usize
-    requires { TextFits (refused_line (number_of why) (place_of why)) at out.old }
-    ensures { Put (refused_line (number_of why) (place_of why)) at result out.old out.new }
-{
-    put_line(out, at, b"refused", &[why.number(), why.place()])
+    // Puts a field for each number.
+    pub fn put_numbers(&mut self, numbers: &[u64])
+        requires { TextFits (flat_map field numbers.now) self.old }
+        ensures { Put (flat_map field numbers.now) self.old self.new }
+    {
+        for n in numbers {
+            self.put_field(*n);
+        }
+    }
+
+    // Puts a line: a word, a field for each number, and a newline.
+    pub fn put_line(&mut self, word: &[u8], numbers: &[u64])
+        requires { TextFits (line word.now numbers.now) self.old }
+        ensures { Put (line word.now numbers.now) self.old self.new }
+    {
+        self.put_word(word);
+        self.put_numbers(numbers);
+        self.put_word(b"\n");
+    }
+
+    // Puts the line of a refusal: its number and its place.
+    #[tactic(auto, unfolding(crate::specs::Lines::refused_line))]
+    pub fn put_refusal(&mut self, why: Refusal)
+        requires { TextFits (refused_line (number_of why) (place_of why)) self.old }
+        ensures { Put (refused_line (number_of why) (place_of why)) self.old self.new }
+    {
+        self.put_line(b"refused", &[why.number(), why.place()]);
+    }
 }

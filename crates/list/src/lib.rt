@@ -8,8 +8,10 @@ ghost use Rattle.list.specs.Printing.{printed, Listable};
 
 use areas::gates::body_in;
 use circuit::layout::LONGEST_FILE;
-use compile::{Compiled, compile};
-use line::put_refusal;
+use circuit::reader::CircuitHead;
+use compile::compile;
+use line::LineWriter;
+use refusal::causes::Refusal;
 use text::{put_gate_lines, put_head};
 use wire::limits::{MOST_GATES, MOST_NODES};
 
@@ -17,26 +19,30 @@ use wire::limits::{MOST_GATES, MOST_NODES};
 pub const LISTING_LENGTH: usize = 96 + 20 * MOST_GATES;
 
 // Puts the listing of the answer; on a result the gates stand in the area.
-fn put_listing(out: &mut [u8], answer: Compiled, area: &[u8]) -> usize
-    requires { Listable answer area.now out.old }
-    ensures { Put (printed answer area.now) 0 result out.old out.new }
+#[tactic(auto, unfolding(crate::specs::Printing::printed))]
+fn put_listing(writer: &mut LineWriter, answer: Result<CircuitHead, Refusal>, area: &[u8])
+    requires { Listable answer area.now writer.old }
+    ensures { Put (printed answer area.now) writer.old writer.new }
 {
     match answer {
-        Compiled::Written(head) => {
-            let after_head = put_head(out, 0, head);
-            put_gate_lines(out, after_head, body_in(area, head.gates))
+        Ok(head) => {
+            put_head(writer, head);
+            put_gate_lines(writer, body_in(area, head.gates));
         }
-        Compiled::Refused(why) => put_refusal(out, 0, why),
+        Err(why) => writer.put_refusal(why),
     }
 }
 
 // Compiles a program file with this grant and puts the listing of the answer at the start of the
-// buffer, whose other bytes stay as they were; how many bytes the listing takes.
+// buffer, whose other bytes stay as they were; how many bytes the listing takes. There is no heap,
+// so size list and area are arrays of the largest size, and the caller lends the buffer.
 pub fn list(input: &[u8], grant: u64, out: &mut [u8; LISTING_LENGTH]) -> usize
     ensures { let text : List ℕ = listing_of input.now grant in (result ≡ length text) × (out.new ≡ text ++ drop result out.old) }
 {
     let mut sizes = [0u16; MOST_NODES];
     let mut area = [0u8; LONGEST_FILE];
     let answer = compile(input, grant, &mut sizes, &mut area);
-    put_listing(out, answer, &area)
+    let mut writer = LineWriter { out, end: 0 };
+    put_listing(&mut writer, answer, &area);
+    writer.end
 }

@@ -1,5 +1,5 @@
-// Lists the circuit of each program file that its arguments name: the files of data/, in the order of
-// the file args.
+// Lists the circuit of each program file that its arguments name: the files of data/, in the order
+// of the file args.
 #![tactic(auto)]
 
 ghost use Rattle.std.specs.Prelude.{◌≤◌, length, IfOk};

@@ -7,32 +7,46 @@ use mathlib.Core.List.{List}
 use lib.ListN.{get_or}
 use lib.Dec.{eqb, leb, ltb}
 use borrow.Author.Tests.{ne_eqb, le-leb, lt-leb, ltb-true, eqb-true, eqb-false}
-use Rattle.refusal.specs.Answers.{result}
+use Rattle.std.specs.Prelude.{Result, Ok, Err}
+use Rattle.refusal.specs.Answers.{Answer, answer_of, result, refuse, number_of, place_of}
+use Rattle.refusal.specs.declared.causes.Refusal.{Refusal}
 use Rattle.wire.specs.Bytes.{at16}
 use Rattle.refusal.specs.declared.causes.Refusal.TheVariants as cause
-use Rattle.refusal.proofs.AnswerLaws.{checked, failed, failed_place}
+use Rattle.refusal.proofs.AnswerLaws.{checked, failed, same_refusal}
 use Rattle.refusal.proofs.CheckLaws.{by_test, both_first, both_second}
+use Rattle.node.specs.declared.fields.Fields.{Fields}
 use Rattle.node.specs.declared.nodes.Node.{Node}
 use Rattle.node.specs.declared.nodes.Node.TheVariants.{Input, Not, Xor, And}
-use Rattle.node.specs.declared.nodes.NodeRead.{NodeRead}
-use Rattle.node.specs.declared.nodes.NodeRead.TheVariants.{Good, Bad}
 use Rattle.node.specs.Nodes.{node_of, mark_fits, operands_fit, node_at, node_fits, NodeOk}
-use Rattle.node.specs.Steps.{read_node, node_read}
+use Rattle.node.specs.Steps.{fields_at, read_node}
 
-module _ (n : ℕ) (body : List ℕ) (i : ℕ) {r : NodeRead} (e : node_read r ≡ read_node n body i) where
+module _ (n : ℕ) (body : List ℕ) (i : ℕ) {r : Result Node Refusal} (e : answer_of r ≡ read_node n body i) where
   -- a node that was read is in order
-  pub read_good : {x : Node} → r ≡ Good x → node_fits n body i ≡ true
+  pub read_good : {x : Node} → r ≡ Ok x → node_fits n body i ≡ true
   unfolding read_node
-  read_good {x} g = checked x (node_fits n body i) (cause.Node i) (result (node_at body i)) (sym e ∙ ap node_read g)
+  read_good {x} g = checked x (node_fits n body i) (cause.Node i) (result (node_at body i)) (sym e ∙ ap answer_of g)
 
-  -- a node that was refused is not, and its index is reported
-  pub read_bad : {k : ℕ} → r ≡ Bad k → node_fits n body i ≡ false
-  unfolding read_node
-  read_bad {k} g = failed (node_at body i) (node_fits n body i) (cause.Node i) 5 k (sym e ∙ ap node_read g)
+  -- a node that was refused is not, and it is refused with its index
+  module _ {why : Refusal} (g : r ≡ Err why) where
+    pub read_bad : node_fits n body i ≡ false
+    unfolding read_node
+    read_bad = failed (node_at body i) (node_fits n body i) (cause.Node i) (number_of why) (place_of why) (sym e ∙ ap answer_of g)
 
-  pub read_index : {k : ℕ} → r ≡ Bad k → k ≡ i
-  unfolding read_node
-  read_index {k} g = sym (failed_place (node_at body i) (node_fits n body i) (cause.Node i) 5 k (sym e ∙ ap node_read g))
+    pub read_why : ◌≡◌ {A = Answer (Unit {0})} (refuse why) (refuse (cause.Node i))
+    unfolding read_node
+    read_why = same_refusal why (cause.Node i) (let said : read_node n body i ≡ refuse why = sym e ∙ ap answer_of g in simp read_bad at said)
+
+-- the fields of node i
+module _ (body : List ℕ) (i : ℕ) {s : Fields} (is : s ≡ fields_at body i) where
+  -- are tested as the node is
+  pub fields_test : (n : ℕ) {b : Bool} → b ≡ (mark_fits s.kind s.mark && operands_fit n i s.kind s.a s.b) → node_fits n body i ≡ b
+  unfolding node_fits
+  fields_test n e = sym (e ∙ ap (λ (t : Fields). mark_fits t.kind t.mark && operands_fit n i t.kind t.a t.b) is)
+
+  -- and make it
+  pub fields_node : {node : Node} → node ≡ node_of s.kind s.mark s.a s.b → node ≡ node_at body i
+  unfolding node_at
+  fields_node e = e ∙ ap (λ (t : Fields). node_of t.kind t.mark t.a t.b) is
 
 -- the test of a mark: 0 is right for every node, and any other only as 1 on an AND
 module _ (kind mark : ℕ) where

@@ -1,4 +1,5 @@
 pub mod Exprs
+pub mod Kinds
 pub mod NodeBytes
 pub mod Nodes
 pub mod Steps

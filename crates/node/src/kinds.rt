@@ -1,8 +1,22 @@
-// The kinds of nodes in a program file. That of a constant is its value, 0 or 1.
-pub const INPUT: u8 = 2;
+// The kinds of nodes, in the order of their numbers in a program file.
+ghost use Rattle.std.specs.Prelude.{◌≡◌};
+ghost use Rattle.node.specs.Kinds.{kind_number};
 
-pub const NOT: u8 = 3;
+#[derive(Clone, Copy, Debug, PartialEq, Eq)]
+pub enum Kind {
+    Zero,
+    One,
+    Input,
+    Not,
+    Xor,
+    And,
+}
 
-pub const XOR: u8 = 4;
-
-pub const AND: u8 = 5;
+impl Kind {
+    // The kind's number, its byte in a program file.
+    pub fn number(self) -> u8
+        ensures { result ≡ kind_number self }
+    {
+        self as u8
+    }
+}

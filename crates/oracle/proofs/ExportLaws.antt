@@ -4,7 +4,9 @@ use native.Mathlib.Omega.{arith}
 use mathlib.Core.Path.{◌≡◌, refl, sym, ap, ◌∙◌}
 use mathlib.Core.List.{List}
 use lib.ListN.{length}
-use Rattle.refusal.specs.Answers.{Answer, result, refused, map_answer}
+use Rattle.std.specs.Prelude.{Result, Ok, Err}
+use Rattle.refusal.specs.declared.causes.Refusal.{Refusal}
+use Rattle.refusal.specs.Answers.{Answer, result, refused, map_answer, answer_of}
 use Rattle.refusal.proofs.AnswerLaws.{mapped_twice, number_some, came}
 use Rattle.circuit.specs.declared.reader.CircuitHead.{CircuitHead}
 use Rattle.circuit.specs.Circuits.{Circuit, head_of}
@@ -17,9 +19,6 @@ use Rattle.compilation.specs.Compiling.{compile_of}
 use Rattle.quotation.specs.Quoting.{quote_of}
 use Rattle.compilation.specs.Demand.{Demand3}
 use Rattle.compilation.proofs.AcceptedLaws.{accepted}
-use Rattle.compile.specs.declared.Compiled.{Compiled}
-use Rattle.compile.specs.declared.Compiled.TheVariants.{Written, Refused}
-use Rattle.compile.specs.Answers.{compiled}
 use Rattle.abi.specs.Steps.{file_bytes, FewGates}
 use Rattle.abi.specs.declared.OracleAnswer.{OracleAnswer}
 use Rattle.abi.specs.Exported.{exported}
@@ -57,7 +56,7 @@ pub compiled_shown : (f : List ℕ) (grant : ℕ) (sizes area : List ℕ) {a : A
 compiled_shown f grant sizes area e q = q ∙ ap (λ (x : Answer CircuitHead). exported (map_answer file_bytes x)) e
 
 -- demand 3 of the service is demand 3 of what is exported
-pub demand_exported : {file area : List ℕ} (answer : Compiled) → Demand3 file (compiled answer) area
-    → {r : OracleAnswer} → r ≡ exported (map_answer file_bytes (compiled answer)) → ExportedDemand3 file r area
-demand_exported (Written h) d q n = record { head = h; kept = rw q (d.kept h refl) }
-demand_exported (Refused why) d q n = absurd (omega (arith, number_some why, ap (λ (a : OracleAnswer). a.number) q))
+pub demand_exported : {file area : List ℕ} (answer : Result CircuitHead Refusal) → Demand3 file (answer_of answer) area
+    → {r : OracleAnswer} → r ≡ exported (map_answer file_bytes (answer_of answer)) → ExportedDemand3 file r area
+demand_exported (Ok h) d q n = record { head = h; kept = rw q (d.kept h refl) }
+demand_exported (Err why) d q n = absurd (omega (arith, number_some why, ap (λ (a : OracleAnswer). a.number) q))

@@ -18,10 +18,7 @@ ghost use Rattle.parsing.specs.Parsing.{parse_of};
 ghost use Rattle.abi.specs.Exported.{exported, exported_head, program_head, circuit_head};
 ghost use Rattle.oracle.specs.Exported.{ExportedDemand3};
 
-use abi::{
-    OracleAnswer, OracleHead, circuit_answer, compile_answer, evaluate_answer, parse_answer,
-    program_answer, quote_answer, run_answer, undo_answer, words_answer,
-};
+use abi::{OracleAnswer, OracleHead, file_answer};
 use circuit::reader::read_circuit;
 use compile::compile;
 use evaluate::evaluate;
@@ -39,7 +36,7 @@ pub extern "C" fn oracle_parse(text: &[u8], inputs: u64, area: &mut [u8]) -> Ora
     ensures value { result ≡ exported (parse_of text.now inputs area.old).answer }
     ensures area_after { area.new ≡ (parse_of text.now inputs area.old).area }
 {
-    parse_answer(parse(text, inputs, area))
+    parse(text, inputs, area).map(|bytes| bytes as u64).into()
 }
 
 // Reads a program file; the value of a result is the number of nodes.
@@ -47,7 +44,7 @@ pub extern "C" fn oracle_parse(text: &[u8], inputs: u64, area: &mut [u8]) -> Ora
 pub extern "C" fn oracle_read_program(file: &[u8]) -> OracleHead
     ensures { result ≡ exported_head (map_answer program_head (read_program file.now)) }
 {
-    program_answer(read_program(file))
+    read_program(file).into()
 }
 
 // Evaluates an output of a program file; the value of a result is the output's bit.
@@ -61,10 +58,11 @@ pub extern "C" fn oracle_evaluate(
     ensures value { result ≡ exported (evaluate_of file.now values.old inputs.now output).answer }
     ensures values_after { values.new ≡ (evaluate_of file.now values.old inputs.now output).values }
 {
-    evaluate_answer(evaluate(file, values, inputs, output))
+    evaluate(file, values, inputs, output).map(u64::from).into()
 }
 
-// Evaluates an output of a program file on 64 questions; the value of a result is the output's word.
+// Evaluates an output of a program file on 64 questions; the value of a result is the output's
+// word.
 #[unsafe(no_mangle)]
 pub extern "C" fn oracle_evaluate_words(
     file: &[u8],
@@ -75,7 +73,7 @@ pub extern "C" fn oracle_evaluate_words(
     ensures value { result ≡ exported (evaluate_words_of file.now values.old inputs.now output).answer }
     ensures values_after { values.new ≡ (evaluate_words_of file.now values.old inputs.now output).values }
 {
-    words_answer(evaluate_words(file, values, inputs, output))
+    evaluate_words(file, values, inputs, output).into()
 }
 
 // Quotes a program file; the value of a result is the number of outputs.
@@ -85,7 +83,7 @@ pub extern "C" fn oracle_quote(file: &[u8], counts: &mut [u64], answers: &mut [u
     ensures counts_after { counts.new ≡ (quote_of file.now counts.old answers.old).counts }
     ensures answers_after { answers.new ≡ (quote_of file.now counts.old answers.old).answers }
 {
-    quote_answer(quote(file, counts, answers))
+    quote(file, counts, answers).into()
 }
 
 // Reads a circuit file; the value of a result is the number of gates.
@@ -93,7 +91,7 @@ pub extern "C" fn oracle_quote(file: &[u8], counts: &mut [u64], answers: &mut [u
 pub extern "C" fn oracle_read_circuit(file: &[u8]) -> OracleHead
     ensures { result ≡ exported_head (map_answer circuit_head (read_circuit file.now)) }
 {
-    circuit_answer(read_circuit(file))
+    read_circuit(file).into()
 }
 
 // Runs a circuit file on the lines, first gate first.
@@ -102,7 +100,7 @@ pub extern "C" fn oracle_run_forwards(file: &[u8], lines: &mut [u8]) -> OracleAn
     ensures value { result ≡ exported (done (run_forwards file.now lines.old)) }
     ensures lines_after { lines.new ≡ lines_after (run_forwards file.now lines.old) lines.old }
 {
-    run_answer(run_forwards(file, lines))
+    run_forwards(file, lines).map(|()| 0).into()
 }
 
 // Runs a circuit file on the lines, last gate first.
@@ -111,7 +109,7 @@ pub extern "C" fn oracle_run_backwards(file: &[u8], lines: &mut [u8]) -> OracleA
     ensures value { result ≡ exported (done (run_backwards file.now lines.old)) }
     ensures lines_after { lines.new ≡ lines_after (run_backwards file.now lines.old) lines.old }
 {
-    run_answer(run_backwards(file, lines))
+    run_backwards(file, lines).map(|()| 0).into()
 }
 
 // Undoes a circuit file except on the chosen lines; the value of a result is the number of bytes
@@ -121,7 +119,7 @@ pub extern "C" fn oracle_undo(file: &[u8], choices: &[u8], area: &mut [u8]) -> O
     ensures value { result ≡ exported (map_answer (λ c. length (circuit_file c)) (undo_file file.now choices.now (length area.old))) }
     ensures area_after { area.new ≡ area_after (map_answer circuit_file (undo_file file.now choices.now (length area.old))) area.old }
 {
-    undo_answer(undo(file, choices, area))
+    file_answer(undo(file, choices, area))
 }
 
 // Compiles a program file with a grant of work lines; the value of a result is the number of bytes
@@ -138,5 +136,5 @@ pub extern "C" fn oracle_compile(
     ensures area_after { area.new ≡ (compile_of file.now grant sizes.old area.old).area }
     ensures exported_demand3 { ExportedDemand3 file.now result area.new }
 {
-    compile_answer(compile(file, grant, sizes, area))
+    file_answer(compile(file, grant, sizes, area))
 }

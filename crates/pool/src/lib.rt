@@ -7,7 +7,8 @@ ghost use Rattle.pool.specs.LinePools.{line_numbers, Takes, Releases};
 // How many numbers a line can have: it is written in 16 bits.
 pub const LINE_NUMBERS: usize = 65536;
 
-// The lowest free line. The work lines before it are in use.
+// The lowest free line. The work lines before it are in use. Document 01 names this form: a pool by
+// value, whose methods hand it back.
 #[derive(Clone, Copy)]
 pub struct LinePool {
     pub free: usize,

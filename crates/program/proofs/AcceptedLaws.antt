@@ -8,7 +8,8 @@ use lib.ListN.{length, get_or}
 use lib.Dec.{leb}
 use borrow.Author.Tests.{ltb-true, leb-true}
 use Rattle.wire.specs.Limits.{most_inputs, most_outputs}
-use Rattle.refusal.specs.Answers.{Answer, result, refuse, check, map_answer, number_of, place_of}
+use Rattle.std.specs.Prelude.{Result, Ok, Err}
+use Rattle.refusal.specs.Answers.{Answer, answer_of, result, refuse, check, map_answer, number_of, place_of}
 use Rattle.refusal.specs.Checks.{all_below, lowest}
 use Rattle.contents.specs.Contents.{table_fits, entries_fit, body_of}
 use Rattle.contents.specs.Arity.{inputs_of, outputs_of, arity_fits}
@@ -20,12 +21,10 @@ use Rattle.refusal.proofs.CheckLaws.{both_first, both_second, all_below_lem}
 use Rattle.wire.proofs.ListLaws.{tabulate_length, tabulate_at}
 use Rattle.node.specs.declared.nodes.Node.TheVariants.{Zero}
 use Rattle.program.specs.declared.reader.Head.{Head}
-use Rattle.program.specs.declared.reader.ProgramRead.{ProgramRead}
-use Rattle.program.specs.declared.reader.ProgramRead.TheVariants.{Good, Refused}
 use Rattle.node.specs.Nodes.{node_at, nodes_in, node_fits, TableOk}
 use Rattle.program.specs.Programs.{Program, head_of}
 use Rattle.program.specs.Format.{tags}
-use Rattle.program.specs.Reading.{nodes_of, lengths_fit, output_at, output_fits, program_of, read_bodies, read_program, program_read}
+use Rattle.program.specs.Reading.{nodes_of, lengths_fit, output_at, output_fits, program_of, read_bodies, read_program}
 use Rattle.node.specs.Trees.{trees}
 use Rattle.node.specs.Exprs.{ZERO, InputsBelow}
 use Rattle.node.proofs.NodeLaws.{node_ok}
@@ -96,21 +95,21 @@ accepted f p e =
       outputs_fit = o.outputs_fit;
     }
 
--- where the reader answered Good, the file is accepted and the head is its program's
+-- where the reader answered a head, the file is accepted and the head is its program's
 pub record Read (f : List ℕ) (h : Head) : Type 0 where
   pub accepts : Accepted f
   pub head : h ≡ head_of (program_of f)
 
-pub read : (f : List ℕ) {r : ProgramRead} {h : Head} → program_read r ≡ map_answer head_of (read_program f) → r ≡ Good h → Read f h
+pub read : (f : List ℕ) {r : Result Head Refusal} {h : Head} → answer_of r ≡ map_answer head_of (read_program f) → r ≡ Ok h → Read f h
 read f {r} {h} e g =
-    let k = came head_of (read_program f) h (sym (ap program_read g) ∙ e) in
+    let k = came head_of (read_program f) h (sym (ap answer_of g) ∙ e) in
     let a = accepted f k.from k.was in
     let same : k.from ≡ program_of f = cc in
     record { accepts = a; head = k.reads ∙ ap head_of same }
 
 -- where it refused, the file is refused for that cause
-pub read_refused : (f : List ℕ) {r : ProgramRead} {why : Refusal} → program_read r ≡ map_answer head_of (read_program f) → r ≡ Refused why → read_program f ≡ refuse why
-read_refused f {r} {why} e g = came_refused head_of (read_program f) (number_of why) (place_of why) (sym (ap program_read g) ∙ e)
+pub read_refused : (f : List ℕ) {r : Result Head Refusal} {why : Refusal} → answer_of r ≡ map_answer head_of (read_program f) → r ≡ Err why → read_program f ≡ refuse why
+read_refused f {r} {why} e g = came_refused head_of (read_program f) (number_of why) (place_of why) (sym (ap answer_of g) ∙ e)
 
 -- reading a program never finds that there is no room
 pub reader_room : (f : List ℕ) → Never 11 (read_program f)

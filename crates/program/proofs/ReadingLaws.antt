@@ -1,24 +1,24 @@
 -- Laws of reading a program file: what each test that held says. Assumes nothing.
 use Prim.Native.Nat.{ℕ, ◌*◌, ◌/◌, ◌%◌, ◌≤◌}
 use native.Mathlib.Omega.{arith}
-use mathlib.Core.Path.{◌≡◌, ap, ap₂, ◌∙◌}
+use mathlib.Core.Path.{◌≡◌, refl, sym, ap, ◌∙◌}
 use mathlib.Core.Bool.{Bool, true, ◌&&◌}
 use mathlib.Core.List.{List}
 use lib.ListN.{length}
 use lib.Dec.{eqb, leb}
 use borrow.Author.Tests.{eqb-true, leb-true}
 use Rattle.wire.specs.Limits.{most_nodes}
-use Rattle.refusal.specs.Checks.{lowest}
 use Rattle.contents.specs.Contents.{entry_length, body_of}
 use Rattle.contents.specs.Arity.{inputs_of, outputs_of, arity_fits}
-use Rattle.contents.specs.declared.reader.ContentsRead.{ContentsRead}
-use Rattle.contents.specs.declared.reader.ContentsRead.TheVariants.{Good}
-use Rattle.contents.specs.Steps.{read_contents, contents_read, Laid}
+use Rattle.contents.specs.Steps.{read_contents, Laid}
 use Rattle.refusal.proofs.CheckLaws.{both_first, both_second}
 use Rattle.contents.proofs.ContentsLaws.{body_length, contents_next}
 use Rattle.wire.proofs.ListLaws.{tabulate_length}
 use Rattle.node.proofs.TreeLaws.{nodes_count}
-use Rattle.refusal.specs.Answers.{Answer, result, check}
+use Rattle.std.specs.Prelude.{Result, Ok, Err}
+use Rattle.refusal.specs.declared.causes.Refusal.{Refusal}
+use Rattle.refusal.specs.Answers.{Answer, answer_of, check_each, checked_each, refuse, map_answer, result, check}
+use Rattle.refusal.proofs.AnswerLaws.{each_next, each_refused}
 use Rattle.refusal.specs.declared.causes.Refusal.TheVariants as cause
 use Rattle.program.specs.declared.reader.Head.{Head}
 use Rattle.node.specs.Nodes.{node_fits}
@@ -62,7 +62,7 @@ module _ (f : List ℕ) where
   program_checks = check (lengths_fit f) cause.BodyLength (check (arity_fits (body_of f 0)) cause.Range (read_bodies f))
 
   -- where these found nothing, reading goes on with them
-  pub program_checks_lem : {r : ContentsRead} → contents_read r ≡ read_contents tags f → r ≡ Good → read_program f ≡ program_checks
+  pub program_checks_lem : {r : Result (Unit {0}) Refusal} → answer_of r ≡ read_contents tags f → r ≡ Ok tt → read_program f ≡ program_checks
   unfolding read_program
   program_checks_lem e g = contents_next tags f e g program_checks
 
@@ -84,18 +84,14 @@ module _ (f : List ℕ) where
     pub outputs_counted : length (body_of f 2) / 2 ≡ outputs_of f
     outputs_counted = omega (arith, outputs_long s.laid, s.twos)
 
-    -- the lowest node and the lowest output that the readers of the bodies find are the file's
-    pub nodes_lowest : {n : ℕ} {nodes : List ℕ} → n ≡ inputs_of f → nodes ≡ body_of f 1
-        → lowest (node_fits n nodes) (length nodes / 6) ≡ lowest (node_fits (inputs_of f) (body_of f 1)) (nodes_of f)
-    nodes_lowest e g =
-        ap₂ (λ (m : ℕ) (b : List ℕ). lowest (node_fits m b) (length b / 6)) e g
-        ∙ ap (lowest (node_fits (inputs_of f) (body_of f 1))) nodes_counted
+    -- the nodes and the outputs are checked as the file asks
+    nodes_said : {n : ℕ} {nodes : List ℕ} → n ≡ inputs_of f → nodes ≡ body_of f 1
+        → checked_each (node_fits n nodes) (length nodes / 6) cause.Node ≡ checked_each (node_fits (inputs_of f) (body_of f 1)) (nodes_of f) cause.Node
+    nodes_said e g = rw (e, g, nodes_counted) refl
 
-    pub outputs_lowest : {k : ℕ} {outputs : List ℕ} → k ≡ nodes_of f → outputs ≡ body_of f 2
-        → lowest (output_fits k outputs) (length outputs / 2) ≡ lowest (output_fits (nodes_of f) (body_of f 2)) (outputs_of f)
-    outputs_lowest e g =
-        ap₂ (λ (m : ℕ) (b : List ℕ). lowest (output_fits m b) (length b / 2)) e g
-        ∙ ap (lowest (output_fits (nodes_of f) (body_of f 2))) outputs_counted
+    outputs_said : {k : ℕ} {outputs : List ℕ} → k ≡ nodes_of f → outputs ≡ body_of f 2
+        → checked_each (output_fits k outputs) (length outputs / 2) cause.Output ≡ checked_each (output_fits (nodes_of f) (body_of f 2)) (outputs_of f) cause.Output
+    outputs_said e g = rw (e, g, outputs_counted) refl
 
 -- the head that the reader answers is the program's
 pub head_of_lem : (f : List ℕ) {n m k : ℕ} → Sized f → n ≡ inputs_of f → m ≡ outputs_of f → k ≡ nodes_of f → ◌≡◌ {A = Answer Head} (result (record { inputs = n; outputs = m; nodes = k })) (result (head_of (program_of f)))
@@ -104,3 +100,31 @@ head_of_lem f {n} {m} {k} s a b c =
     let ls = nodes_count (body_of f 1) ∙ nodes_counted f s in
     let os = tabulate_length (output_at (body_of f 2)) (outputs_of f) in
     cc
+
+-- what the readers of the bodies answer, case by case
+module _ (f : List ℕ) (s : Sized f) where
+  abbrev outputs_next : Answer Program
+  outputs_next = check_each (output_fits (nodes_of f) (body_of f 2)) (outputs_of f) cause.Output (result (program_of f))
+
+  module _ {n : ℕ} {nodes : List ℕ} (e : n ≡ inputs_of f) (b : nodes ≡ body_of f 1) {r : Result (Unit {0}) Refusal}
+      (said : answer_of r ≡ checked_each (node_fits n nodes) (length nodes / 6) cause.Node) where
+    -- a refusal of a node is passed on
+    pub node_refused : {why : Refusal} → r ≡ Err why → refuse why ≡ map_answer head_of (read_bodies f)
+    unfolding read_bodies
+    node_refused g = rw (each_refused (node_fits (inputs_of f) (body_of f 1)) (nodes_of f) cause.Node (said ∙ nodes_said f s e b) outputs_next g) refl
+
+    -- and where there is none the outputs are read
+    module _ (g : r ≡ Ok tt) where
+      goes_on : read_bodies f ≡ outputs_next
+      unfolding read_bodies
+      goes_on = each_next (node_fits (inputs_of f) (body_of f 1)) (nodes_of f) cause.Node (said ∙ nodes_said f s e b) outputs_next g
+
+      module _ {k : ℕ} {outputs : List ℕ} (h : k ≡ nodes_of f) (o : outputs ≡ body_of f 2) {q : Result (Unit {0}) Refusal}
+          (found : answer_of q ≡ checked_each (output_fits k outputs) (length outputs / 2) cause.Output) where
+        pub output_refused : {why : Refusal} → q ≡ Err why → refuse why ≡ map_answer head_of (read_bodies f)
+        output_refused z = rw (goes_on, each_refused (output_fits (nodes_of f) (body_of f 2)) (outputs_of f) cause.Output (found ∙ outputs_said f s h o) (result (program_of f)) z) refl
+
+        pub bodies_read : {m : ℕ} → m ≡ outputs_of f → q ≡ Ok tt → result (record { inputs = n; outputs = m; nodes = k }) ≡ map_answer head_of (read_bodies f)
+        bodies_read c z =
+            head_of_lem f s e c h
+            ∙ sym (ap (map_answer head_of) (goes_on ∙ each_next (output_fits (nodes_of f) (body_of f 2)) (outputs_of f) cause.Output (found ∙ outputs_said f s h o) (result (program_of f)) z))

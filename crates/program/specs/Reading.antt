@@ -1,15 +1,12 @@
 -- Reading a program file, check by check in the order of 01's table.
 use Rattle.std.specs.Prelude.{ℕ, ◌*◌, ◌/◌, ◌%◌, Bool, ◌&&◌, List, eqb, leb, ltb}
 use Rattle.wire.specs.Limits.{most_nodes}
-use Rattle.refusal.specs.Answers.{Answer, result, refuse, check, check_each}
+use Rattle.refusal.specs.Answers.{Answer, result, check, check_each}
 use Rattle.wire.specs.Bytes.{at16}
 use Rattle.contents.specs.Contents.{table_fits, entries_fit, entry_length, body_of}
 use Rattle.contents.specs.Arity.{inputs_of, outputs_of, arity_fits}
 use Rattle.wire.specs.Lists.{tabulate}
 use Rattle.refusal.specs.declared.causes.Refusal.TheVariants as cause
-use Rattle.program.specs.declared.reader.Head.{Head}
-use Rattle.program.specs.declared.reader.ProgramRead.{ProgramRead}
-use Rattle.program.specs.declared.reader.ProgramRead.TheVariants.{Good, Refused}
 use Rattle.node.specs.Nodes.{nodes_in, node_fits}
 use Rattle.program.specs.Programs.{Program}
 use Rattle.program.specs.Format.{tags}
@@ -57,8 +54,3 @@ read_program f =
     (check (lengths_fit f) cause.BodyLength  -- 3
     (check (arity_fits (body_of f 0)) cause.Range  -- 4
     (read_bodies f))))
-
--- the reader's answer in 01's terms: inputs, outputs and nodes, or a number and a place
-abbrev pub program_read : ProgramRead → Answer Head
-program_read (Good head) = result head
-program_read (Refused why) = refuse why

@@ -11,13 +11,18 @@ use Rattle.contents.specs.Contents.{table_length, contents_bytes}
 use Rattle.contents.specs.Steps.{total}
 use Rattle.contents.proofs.WrittenLaws.{contents_length}
 use Rattle.program.specs.Format.{tags}
+use Rattle.areas.specs.declared.table.Body.{Body}
 use Rattle.areas.specs.Tables.{WritableTable}
 use Rattle.program_writer.specs.OneOutput.{body_file, body_file_length, FewNodes}
 
--- the table of contents can be written
-pub table_writable : (n long room : ℕ) → FewNodes n long → body_file_length long ≤ room → WritableTable tags (4 ∷ long ∷ 2 ∷ []) room
+-- the three bodies, with a node body of so many bytes
+abbrev bodies : ℕ → List Body
+bodies long = record { tag = 1; length = 4 } ∷ record { tag = 2; length = long } ∷ record { tag = 3; length = 2 } ∷ []
+
+-- their table of contents can be written
+pub table_writable : (n long room : ℕ) → FewNodes n long → body_file_length long ≤ room → WritableTable (bodies long) room
 unfolding total
-table_writable n long room f fits = record { paired = refl; few = omega arith; fits = omega arith; small = omega (arith, f.most) }
+table_writable n long room f fits = record { few = omega arith; fits = omega arith; small = omega (arith, f.most) }
 
 -- the stores of a file's parts, one after the other, are one run
 pub file_stores : (area : List ℕ) (n : ℕ) (body : List ℕ) {l₁ l₂ l₃ l₄ l₅ : List ℕ}

@@ -1,11 +1,12 @@
 -- Laws of the answers: an answer says of an entry what the quote says of the share, and a loop stores them. Assumes nothing.
-use Prim.Native.Nat.{ℕ, ◌+◌, ◌*◌, ◌/◌, ◌<◌, ◌≤◌}
+use Prim.Native.Nat.{ℕ, ◌+◌, ◌-◌, ◌*◌, ◌/◌, ◌<◌, ◌≤◌}
 use native.Mathlib.Omega.{arith}
 use mathlib.Core.Path.{◌≡◌, refl, sym, ap, ◌∙◌}
 use mathlib.Core.List.{List, ◌++◌, flat_map}
 use lib.ListN.{length, drop}
-use lib.Seq.{sets}
+use borrow.Rule.Slice.PartMut.{put_mid}
 use Rattle.wire.specs.Limits.{most_quoted}
+use Rattle.wire.proofs.AreaLaws.{part_stored}
 use Rattle.wire.proofs.FillLaws.{Filled, filled_entry, filled_entries}
 use Rattle.wire.proofs.ListLaws.{tabulate_length, tabulate_at}
 use Rattle.wire.proofs.ShownLaws.{shown_both}
@@ -44,14 +45,14 @@ module _ (outputs counts : List ℕ) where
   all = flat_map entry_quote (named_entries outputs counts)
 
   module _ (k : ℕ) {answers₀ answers : List ℕ} (p : Filled all answers₀ answers (3 * k)) (q : Quotable outputs counts (length answers₀)) where
-    pub answer_fits : k < length outputs / 2 → 3 * k + 3 ≤ length answers
-    answer_fits h = omega (arith, p.same, q.fits)
-
-    -- the next one is stored
-    pub answer_stored : {e : Entry} → k < length outputs / 2 → e ≡ named_entry outputs counts k → Filled all answers₀ (sets answers (3 * k) (entry_quote e)) (3 * (k + 1))
-    answer_stored {e} h is =
-        filled_entry 3 entry_quote answer_wide (named_entries outputs counts) e k (entry_quote e) p (omega (arith, many)) (omega (arith, many, q.fits))
-        (ap entry_quote (is ∙ sym (tabulate_at (named_entry outputs counts) (length outputs / 2) k e h)))
+    -- the next one is stored, copied over a part of the list
+    pub answer_stored : {e : Entry} {copied : List ℕ} → k < length outputs / 2 → e ≡ named_entry outputs counts k → copied ≡ entry_quote e
+        → Filled all answers₀ (put_mid (3 * k) (3 * k + 3 - 3 * k) answers copied) (3 * (k + 1))
+    unfolding entry_quote
+    answer_stored {e} h is at =
+        rw (part_stored (entry_quote e) answers (3 * k) (3 * k + 3 - 3 * k) at (omega arith) (omega (arith, p.same, q.fits)))
+        (filled_entry 3 entry_quote answer_wide (named_entries outputs counts) e k (entry_quote e) p (omega (arith, many)) (omega (arith, many, q.fits))
+        (ap entry_quote (is ∙ sym (tabulate_at (named_entry outputs counts) (length outputs / 2) k e h))))
 
     -- every one is stored
     pub answers_stored : length outputs / 2 ≤ k → answers ≡ all ++ drop (3 * (length outputs / 2)) answers₀

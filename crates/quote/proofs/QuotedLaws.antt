@@ -3,8 +3,8 @@ use Prim.Native.Nat.{ℕ, ◌+◌, ◌*◌, ◌/◌, ◌<◌, ◌≤◌}
 use native.Mathlib.Omega.{arith}
 use mathlib.Core.Path.{◌≡◌, sym, ap, ◌∙◌}
 use mathlib.Core.List.{List, ◌++◌, flat_map}
-use lib.ListN.{length, get_or, drop, replicate}
-use lib.Seq.{drop_at}
+use lib.ListN.{length, get_or, take, drop, replicate, length-append}
+use lib.Seq.{drop_at, length-take-le}
 use Rattle.refusal.specs.Answers.{result, refuse}
 use Rattle.refusal.specs.declared.causes.Refusal.TheVariants as cause
 use Rattle.wire.specs.Lists.{tabulate}
@@ -73,21 +73,23 @@ module _ (f counts answers : List ℕ) {h : Head} (r : Read f h) where
           ∙ ap (λ (q : List ℕ). q ++ drop (3 * (length (body_of f 2) / 2)) answers) (flat_same entry_quote share_quote (named_entry (body_of f 2) list) (output_share (program_of f)) (length (body_of f 2) / 2) answer_is)
           ∙ ap (λ (n : ℕ). flat_map share_quote (tabulate (output_share (program_of f)) n) ++ drop (3 * n) answers) (body_outputs f r.accepts)
 
-      -- and behind the entries the count list is as it was
-      counts_cleared : {c : List ℕ} → c ≡ replicate (8 * h.nodes) 0 ++ drop (8 * h.nodes) list
-          → c ≡ replicate (8 * length (program_of f).nodes) 0 ++ drop (8 * length (program_of f).nodes) counts
+      -- the front of the count list is cleared, and behind the entries it is as it was
+      counts_cleared : {front : List ℕ} → front ≡ replicate (length (take (8 * h.nodes) list)) 0
+          → front ++ drop (8 * h.nodes) list ≡ replicate (8 * length (program_of f).nodes) 0 ++ drop (8 * length (program_of f).nodes) counts
       counts_cleared w =
           let n : ℕ = length (body_of f 1) / 6 in
           let long : length (node_numbers (nodes_in (body_of f 1))) ≡ 8 * n = flat_length 8 tree_numbers eight (trees (nodes_in (body_of f 1))) ∙ ap (λ (m : ℕ). 8 * m) (trees_count (body_of f 1)) in
           let behind : drop (8 * n) list ≡ drop (8 * n) counts = ap (drop (8 * n)) p ∙ drop_at (node_numbers (nodes_in (body_of f 1))) (drop (8 * n) counts) (8 * n) long in
-          w
-          ∙ ap (λ (m : ℕ). replicate (8 * m) 0 ++ drop (8 * m) list) (head_nodes r ∙ sym (body_nodes f r.accepts))
+          let same : h.nodes ≡ n = head_nodes r ∙ sym (body_nodes f r.accepts) in
+          let inside : 8 * h.nodes ≤ length list = omega (arith, same, long, ap length p, length-append (node_numbers (nodes_in (body_of f 1))) (drop (8 * n) counts)) in
+          ap (λ (l : List ℕ). l ++ drop (8 * h.nodes) list) (w ∙ ap (λ (m : ℕ). replicate m 0) (length-take-le (8 * h.nodes) list inside))
+          ∙ ap (λ (m : ℕ). replicate (8 * m) 0 ++ drop (8 * m) list) same
           ∙ ap (λ (l : List ℕ). replicate (8 * n) 0 ++ l) behind
           ∙ ap (λ (m : ℕ). replicate (8 * m) 0 ++ drop (8 * m) counts) (body_nodes f r.accepts)
 
       -- the answers are written and the count list is cleared
-      pub done : {c l : List ℕ} → c ≡ replicate (8 * h.nodes) 0 ++ drop (8 * h.nodes) list
+      pub done : {front l : List ℕ} → front ≡ replicate (length (take (8 * h.nodes) list)) 0
           → l ≡ flat_map entry_quote (named_entries (body_of f 2) list) ++ drop (3 * (length (body_of f 2) / 2)) answers
-          → Outcome f counts answers (result h.outputs) c l
-      done {c} {l} v w =
+          → Outcome f counts answers (result h.outputs) (front ++ drop (8 * h.nodes) list) l
+      done v w =
           rw (head_outputs r) (theory.result_given f counts answers r.accepts.is (omega (arith, head_nodes r)) (omega (arith, head_outputs r)) (counts_cleared v) (answers_quoted w))

@@ -1,12 +1,15 @@
 -- Laws of answers: what a chain of checks that ends in a result says of its tests. Assumes nothing.
-use Prim.Native.Nat.{ℕ, ◌≤◌}
+use Prim.Native.Nat.{ℕ, ◌<◌, ◌≤◌}
 use native.Mathlib.Omega.{arith}
-use mathlib.Core.Path.{◌≡◌, refl, sym, ap₂, ◌∙◌}
+use mathlib.Core.Path.{◌≡◌, refl, sym, ap, ap₂, ◌∙◌}
 use mathlib.Core.Logic.{◌≢◌}
 use mathlib.Core.Bool.{Bool, true, false}
 use Rattle.refusal.specs.declared.causes.Refusal.{Refusal}
 use Rattle.refusal.specs.declared.causes.Refusal.TheVariants as cause
-use Rattle.refusal.specs.Answers.{Answer, result, refused, refuse, check, map_answer, and_then, number_of, place_of}
+use Rattle.std.specs.Prelude.{Result, Ok, Err}
+use borrow.Author.Tests.{eq-eqb, ne_eqb}
+use Rattle.refusal.specs.Answers.{Answer, result, refused, refuse, check, check_each, checked_each, map_answer, and_then, answer_of, number_of, place_of}
+use Rattle.refusal.specs.Checks.{lowest, all_below}
 use Rattle.refusal.proofs.CheckLaws.{by_test}
 
 module _ {A : Type 0} (a : A) (test : Bool) (why : Refusal) (next : Answer A) where
@@ -36,6 +39,29 @@ same_refusal x y e = let n : number_of y ≡ number_of x = cc in let p : place_o
 -- equal results have equal values
 pub same_result : {A : Type 0} (a b : A) → ◌≡◌ {A = Answer A} (result a) (result b) → a ≡ b
 same_result a b e = cc
+
+-- a check of each index, by what a loop over them found
+module _ (test : ℕ → Bool) (k : ℕ) (why : ℕ → Refusal) where
+  pub each_fails : {i : ℕ} → lowest test k ≡ i → i < k → refuse (why i) ≡ checked_each test k why
+  each_fails {i} l h = rw (ne_eqb (lowest test k) k (λ e. absurd (omega (arith, e, l))), l) refl
+
+  pub each_holds : lowest test k ≡ k → result tt ≡ checked_each test k why
+  each_holds l = rw (eq-eqb (lowest test k) k l) refl
+
+  -- and by what it answers: a reader goes on, or passes the refusal on
+  module _ {r : Result (Unit {0}) Refusal} (e : answer_of r ≡ checked_each test k why) where
+    pub each_test : r ≡ Ok tt → all_below test k ≡ true
+    each_test g = checked tt (all_below test k) (why (lowest test k)) (result tt) (sym e ∙ ap answer_of g)
+
+    pub each_next : {A : Type 0} (next : Answer A) → r ≡ Ok tt → check_each test k why next ≡ next
+    each_next next g = rw (each_test g) refl
+
+    pub each_refused : {A : Type 0} {w : Refusal} (next : Answer A) → r ≡ Err w → check_each test k why next ≡ refuse w
+    each_refused {A} {w} next g =
+        let said : refuse w ≡ checked_each test k why = sym (ap answer_of g) ∙ e in
+        by_test (all_below test k)
+        (λ t. let z : refuse w ≡ result tt = simp t at said in let o : ◌≡◌ {A = ℕ} 0 1 = cc in absurd (omega arith))
+        (λ t. rw t (same_refusal (why (lowest test k)) w (simp t at said)))
 
 module _ {A B : Type 0} (g : A → B) where
   -- an answer whose values g reads is a result where it reads as one

@@ -1,5 +1,5 @@
 -- What services answer: a result's values, or a refusal's number and place.
-use Rattle.std.specs.Prelude.{ℕ, Bool, true, false}
+use Rattle.std.specs.Prelude.{ℕ, Bool, true, false, Result, Ok, Err}
 use Rattle.refusal.specs.Checks.{all_below, lowest}
 use Rattle.refusal.specs.declared.causes.Refusal.{Refusal}
 use Rattle.refusal.specs.declared.causes.Refusal.TheVariants as cause
@@ -47,6 +47,11 @@ pub data Answer (A : Type 0) : Type 0 where
 abbrev pub refuse : {A : Type 0} → Refusal → Answer A
 refuse why = refused (number_of why) (place_of why)
 
+-- what a Result is as an answer (01): the values of an Ok, or the number and the place of the refusal in an Err
+abbrev pub answer_of : {A : Type 0} → Result A Refusal → Answer A
+answer_of (Ok a) = result a
+answer_of (Err why) = refuse why
+
 -- a check: what comes next where the test holds, else the refusal
 abbrev pub check : {A : Type 0} → Bool → Refusal → Answer A → Answer A
 check true why next = next
@@ -55,6 +60,10 @@ check false why next = refuse why
 -- a check of each index below k: the lowest at which the test fails is the refusal's place
 abbrev pub check_each : {A : Type 0} → (ℕ → Bool) → ℕ → (ℕ → Refusal) → Answer A → Answer A
 check_each test k why next = check (all_below test k) (why (lowest test k)) next
+
+-- the same with nothing behind it
+abbrev pub checked_each : (ℕ → Bool) → ℕ → (ℕ → Refusal) → Answer (Unit {0})
+checked_each test k why = check_each test k why (result tt)
 
 -- the same answer with its values read by f
 abbrev pub map_answer : {A B : Type 0} → (A → B) → Answer A → Answer B

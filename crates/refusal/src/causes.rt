@@ -3,7 +3,10 @@
 ghost use Rattle.std.specs.Prelude.{◌≡◌};
 ghost use Rattle.refusal.specs.Answers.{number_of, place_of};
 
-#[derive(Clone, Copy)]
+use std::error::Error;
+use std::fmt;
+
+#[derive(Clone, Copy, Debug, PartialEq, Eq)]
 pub enum Refusal {
     // The number of entries is missing or wrong, or the table of contents is cut short.
     Table,
@@ -17,7 +20,8 @@ pub enum Refusal {
     Node(u64),
     // The output with this index names no node.
     Output(u64),
-    // A lent list has fewer entries than there are nodes, or the answer list than there are outputs.
+    // A lent list has fewer entries than there are nodes, or the answer list than there are
+    // outputs.
     ListLength,
     // The output with this index has an unfolded size over the limit.
     Size(u64),
@@ -35,7 +39,8 @@ pub enum Refusal {
     InputBytes,
     // No output has this number.
     OutputNumber,
-    // The text is outside the language; this many bytes are the most that some text of it begins with.
+    // The text is outside the language; this many bytes are the most that some text of it begins
+    // with.
     Text(u64),
     // The text is too long.
     TextLength,
@@ -96,3 +101,12 @@ impl Refusal {
         }
     }
 }
+
+// The number and the place, as a listing has them.
+impl fmt::Display for Refusal {
+    fn fmt<W: fmt::Write>(&self, f: &mut fmt::Formatter<W>) -> fmt::Result {
+        write!(f, "refused {} {}", self.number(), self.place())
+    }
+}
+
+impl Error for Refusal {}

@@ -1,5 +1,4 @@
-// The causes for which a service refuses, what services answer, and tests put together.
+// The causes for which a service refuses, and what services answer.
 #![tactic(auto)]
 
 pub mod causes;
-pub mod checks;

@@ -3,10 +3,12 @@ use Prim.Native.Nat.{ℕ, ◌-◌, ◌/◌, ◌<◌, ◌≤◌}
 use mathlib.Core.Path.{◌≡◌, refl, sym, ap, ◌∙◌}
 use mathlib.Core.List.{List, [], ◌∷◌, reverse, reverse-append}
 use lib.ListN.{length, take}
-use Rattle.refusal.specs.Answers.{Answer, result, refused, map_answer}
+use Rattle.std.specs.Prelude.{Result, Ok, Err}
+use Rattle.refusal.specs.declared.causes.Refusal.{Refusal}
+use Rattle.refusal.specs.Answers.{Answer, result, refused, refuse, map_answer, answer_of, number_of, place_of}
 use Rattle.wire.specs.Bits.{Bits}
 use Rattle.contents.specs.Contents.{body_of}
-use Rattle.refusal.proofs.AnswerLaws.{came}
+use Rattle.refusal.proofs.AnswerLaws.{Came, came, came_refused}
 use Rattle.wire.proofs.BitLaws.{bits_pass}
 use Rattle.gate.specs.declared.gates.Gate.{Gate}
 use Rattle.gate.specs.Gates.{WellFormed, Fits}
@@ -15,9 +17,11 @@ use Rattle.gate.specs.Running.{step, run, run_back}
 use Rattle.gate.proofs.AllLaws.{all_reverse}
 use Rattle.gate.proofs.StepLaws.{length_step, step_bits, length_run, run_bits, backwards_undoes, forwards_undoes}
 use Rattle.gate.proofs.WellFormedLaws.{target_below}
-use Rattle.circuit.specs.Circuits.{Circuit, line_count, gates_in}
+use Rattle.contents.specs.Steps.{Laid}
+use Rattle.circuit.specs.declared.reader.CircuitHead.{CircuitHead}
+use Rattle.circuit.specs.Circuits.{Circuit, head_of, line_count, gates_in}
 use Rattle.circuit.specs.Reading.{read_with_lines}
-use Rattle.circuit.proofs.AcceptedLaws.{accepted, formed, WithLines, with_lines, has_lines, lines_formed}
+use Rattle.circuit.proofs.AcceptedLaws.{accepted, formed, WithLines, with_lines, has_lines, lines_formed, lines_laid, lines_gates}
 use Rattle.circuit.proofs.GateBodyLaws.{gate_formed, gates_last}
 use Rattle.run.specs.RunCircuit.{run_forwards, run_backwards, lines_after, done}
 use Rattle.run.specs.Theorems.{BackwardsUndoesFile, ForwardsUndoesFile}
@@ -77,9 +81,28 @@ module _ (x : Answer Circuit) (lines : List ℕ) (order : List Gate → List ℕ
   pub run_done : (c : Circuit) (gs : List Gate) → x ≡ result c → c.gates ≡ gs → RunOutcome (result 0) (order gs lines)
   run_done c gs e same = record { answer = rw e refl; lines_are = rw e (ap (λ (hs : List Gate). order hs lines) (sym same)) }
 
--- the gates of a file that was read can be run on its lines
-pub runnable : (f lines : List ℕ) (c : Circuit) → read_with_lines f lines ≡ result c → Fits (gates_in (body_of f 1)) lines × Bits lines
-runnable f lines c e = (lines_formed f lines c e, (with_lines f lines c e).bits)
+-- what a service does with the answer r of the reader of a file that comes with lines
+module _ (f lines : List ℕ) {r : Result CircuitHead Refusal} (e : answer_of r ≡ map_answer head_of (read_with_lines f lines)) where
+  -- a refusal is passed on
+  pub passed_on : (order : List Gate → List ℕ → List ℕ) {why : Refusal} → r ≡ Err why → RunOutcome (read_with_lines f lines) lines order (refuse why) lines
+  passed_on order {why} g =
+      run_refused (read_with_lines f lines) lines order (number_of why) (place_of why)
+      (came_refused head_of (read_with_lines f lines) (number_of why) (place_of why) (sym (ap answer_of g) ∙ e))
+
+  module _ {h : CircuitHead} (g : r ≡ Ok h) where
+    was_read : Came head_of (read_with_lines f lines) h
+    was_read = came head_of (read_with_lines f lines) h (sym (ap answer_of g) ∙ e)
+
+    -- the gates of a file that was read can be run on its lines
+    pub laid : Laid 2 f
+    laid = lines_laid f lines was_read.from was_read.was
+
+    pub runnable : Fits (gates_in (body_of f 1)) lines × Bits lines
+    runnable = (lines_formed f lines was_read.from was_read.was, (with_lines f lines was_read.from was_read.was).bits)
+
+    -- and the result is the run
+    pub run_whole : (order : List Gate → List ℕ → List ℕ) → RunOutcome (read_with_lines f lines) lines order (result 0) (order (gates_in (body_of f 1)) lines)
+    run_whole order = run_done (read_with_lines f lines) lines order was_read.from (gates_in (body_of f 1)) was_read.was (lines_gates f lines was_read.from was_read.was)
 
 -- a file that was run on lines can be run on what it left of them
 module _ (f lines : List ℕ) (c : Circuit) (e : read_with_lines f lines ≡ result c) where

@@ -1,10 +1,9 @@
 -- Running a circuit file on lines.
-use Rattle.std.specs.Prelude.{ℕ, List}
-use Rattle.refusal.specs.Answers.{Answer, result, refused, refuse, map_answer}
+use Rattle.std.specs.Prelude.{ℕ, List, Result}
+use Rattle.refusal.specs.Answers.{Answer, result, refused, map_answer, answer_of}
 use Rattle.gate.specs.Running.{run, run_back}
 use Rattle.circuit.specs.Reading.{read_with_lines}
-use Rattle.run.specs.declared.Ran.{Ran}
-use Rattle.run.specs.declared.Ran.TheVariants.{Done, Refused}
+use Rattle.refusal.specs.declared.causes.Refusal.{Refusal}
 
 -- running a file forwards: the lines after its gates, first to last
 unfoldable pub run_forwards : List ℕ → List ℕ → Answer (List ℕ)
@@ -23,7 +22,6 @@ lines_after (refused n p) lines = lines
 abbrev pub done : Answer (List ℕ) → Answer ℕ
 done a = map_answer (λ after. 0) a
 
--- a runner's answer in 01's terms: a result, or a number and a place
-abbrev pub ran : Ran → Answer ℕ
-ran Done = result 0
-ran (Refused why) = refuse why
+-- a runner's answer in 01's terms: a result whose value is 0, or a number and a place
+abbrev pub ran : Result (Unit {0}) Refusal → Answer ℕ
+ran r = map_answer (λ u. 0) (answer_of r)

@@ -1,14 +1,18 @@
 -- The answers of the reader of leaves. Assumes nothing.
-use Prim.Native.Nat.{ℕ, ◌+◌, ◌-◌, ◌≤◌, ◌<◌}
+use Prim.Native.Nat.{ℕ, ◌+◌, ◌≤◌, ◌<◌}
 use native.Mathlib.Omega.{arith}
-use native.Mathlib.Decide.{dec_lt}
-use mathlib.Core.Path.{◌≡◌, refl, ap, ◌∙◌, subst}
+use mathlib.Core.Path.{◌≡◌, refl, ap, ◌∙◌}
 use mathlib.Core.Logic.{◌≢◌}
 use mathlib.Core.List.{List, flat_map}
 use lib.ListN.{length, get_or}
 use borrow.Author.Tests.{ne_eqb}
+use Rattle.std.specs.Prelude.{Result, Ok, Err}
+use Rattle.refusal.specs.declared.causes.Refusal.{Refusal}
 use Rattle.refusal.specs.declared.causes.Refusal.TheVariants as cause
 use Rattle.wire.specs.Limits.{most_open}
+use Rattle.node.specs.declared.kinds.Kind.{Kind}
+use Rattle.node.specs.declared.kinds.Kind.TheVariants.{Zero, One}
+use Rattle.node.specs.Kinds.{kind_number}
 use Rattle.node.specs.NodeBytes.{node_fields, node_bytes, nodes_bytes}
 use Rattle.grammar.specs.Characters.{exclamation, opening, letter_x, digit0, digit1}
 use Rattle.grammar.specs.Grammar.{Factor, constant0, constant1}
@@ -18,7 +22,6 @@ use Rattle.automaton.specs.Automaton.{after_factor, stop, go, read_factor_byte, 
 use Rattle.automaton.proofs.BoundLaws.{open_after}
 use Rattle.scanner.specs.Scanning.{Goes, NumberRead, LeafRead}
 use Rattle.scanner.specs.declared.Leaf.{Leaf}
-use Rattle.scanner.specs.declared.Leaf.TheVariants.{Good, Bad}
 use Rattle.scanner.proofs.PlaceLaws.{byte_inside, goes_byte, stops_here, goes_then, goes_refuses}
 
 -- a byte with which no factor starts
@@ -27,13 +30,13 @@ unfolding read_byte read_factor_byte
 factor_stop c b h₁ h₂ h₃ h₄ h₅ = rw (ne_eqb b digit0 h₂, ne_eqb b digit1 h₃, ne_eqb b letter_x h₁, ne_eqb b exclamation h₄, ne_eqb b opening h₅) refl
 
 module _ (n : ℕ) (text : List ℕ) (at made : ℕ) where
-  pub leaf_bad : at ≤ length text → get_or text at 0 ≢ letter_x → get_or text at 0 ≢ digit0 → get_or text at 0 ≢ digit1 → LeafRead n text at made (Bad (cause.Text at))
+  pub leaf_bad : at ≤ length text → get_or text at 0 ≢ letter_x → get_or text at 0 ≢ digit0 → get_or text at 0 ≢ digit1 → LeafRead n text at made (Err (cause.Text at))
   unfolding LeafRead finish
   leaf_bad u h₁ h₂ h₃ = λ h₄ h₅ c o m. stops_here n text u (factor_stop c (get_or text at 0) h₁ h₂ h₃ h₄ h₅) refl
 
   -- the byte is a factor by itself
-  constant : (b kind : ℕ) (f : Factor) → get_or text at 0 ≡ b → 1 ≤ b → factor_count f ≡ 1 → ((i : ℕ) → nodes_bytes (factor_nodes f i) ≡ node_fields kind 0 0 0)
-      → ((c : AroundFactor) → read_factor_byte c b ≡ go (after_factor f c)) → LeafRead n text at made (Good kind 0 (at + 1))
+  constant : (b : ℕ) (kind : Kind) (f : Factor) → get_or text at 0 ≡ b → 1 ≤ b → factor_count f ≡ 1 → ((i : ℕ) → nodes_bytes (factor_nodes f i) ≡ node_fields (kind_number kind) 0 0 0)
+      → ((c : AroundFactor) → read_factor_byte c b ≡ go (after_factor f c)) → LeafRead n text at made (Ok (record { kind = kind; field = 0; end = at + 1 }))
   unfolding LeafRead read_byte after_factor
   constant b kind f e some one stored q =
       let here : at < length text = byte_inside text at (omega arith) in
@@ -47,20 +50,13 @@ module _ (n : ℕ) (text : List ℕ) (at made : ℕ) where
         goes = λ c o. goes_byte n text (after_factor f c) here (ap (read_factor_byte c) e ∙ q c) (omega (arith, open_after f c)) tt;
       }
 
-  leaf_zero : get_or text at 0 ≡ digit0 → LeafRead n text at made (Good 0 0 (at + 1))
+  pub leaf_zero : get_or text at 0 ≡ digit0 → LeafRead n text at made (Ok (record { kind = Zero; field = 0; end = at + 1 }))
   unfolding factor_count factor_nodes node_bytes flat_map read_factor_byte
-  leaf_zero e = constant digit0 0 constant0 e (omega arith) refl (λ i. refl) (λ c. refl)
+  leaf_zero e = constant digit0 Zero constant0 e (omega arith) refl (λ i. refl) (λ c. refl)
 
-  leaf_one : get_or text at 0 ≡ digit1 → LeafRead n text at made (Good 1 0 (at + 1))
+  pub leaf_one : get_or text at 0 ≡ digit1 → LeafRead n text at made (Ok (record { kind = One; field = 0; end = at + 1 }))
   unfolding factor_count factor_nodes node_bytes flat_map read_factor_byte
-  leaf_one e = constant digit1 1 constant1 e (omega arith) refl (λ i. refl) (λ c. refl)
-
-  pub leaf_constant : (b : ℕ) → b ≡ get_or text at 0 → digit0 ≤ b → b ≤ digit1 → LeafRead n text at made (Good (b - digit0) 0 (at + 1))
-  leaf_constant b e l u = by (dec_lt b digit1)
-    where
-      by : Dec (b < digit1) → LeafRead n text at made (Good (b - digit0) 0 (at + 1))
-      by (yes h) = let kind : 0 ≡ b - digit0 = omega arith in subst (λ (k : ℕ). LeafRead n text at made (Good k 0 (at + 1))) kind (leaf_zero (omega arith))
-      by (no h) = let kind : 1 ≡ b - digit0 = omega arith in subst (λ (k : ℕ). LeafRead n text at made (Good k 0 (at + 1))) kind (leaf_one (omega arith))
+  leaf_one e = constant digit1 One constant1 e (omega arith) refl (λ i. refl) (λ c. refl)
 
   -- x, and the number behind it
   module _ (e : get_or text at 0 ≡ letter_x) where
@@ -71,9 +67,9 @@ module _ (n : ℕ) (text : List ℕ) (at made : ℕ) where
     unfolding read_byte read_factor_byte opened
     letter_goes c o = goes_byte n text (digit_next c) letter_inside (ap (read_factor_byte c) e) o tt
 
-    pub leaf_number : (r : Leaf) → NumberRead n text (at + 1) made r → LeafRead n text at made r
+    pub leaf_number : (r : Result Leaf Refusal) → NumberRead n text (at + 1) made r → LeafRead n text at made r
     unfolding NumberRead LeafRead
-    leaf_number (Good kind a f) g =
+    leaf_number (Ok leaf) g =
         record {
           tree = g.tree;
           one = g.one;
@@ -83,4 +79,4 @@ module _ (n : ℕ) (text : List ℕ) (at made : ℕ) where
           inside = g.inside;
           goes = λ c o. goes_then n text (letter_goes c o) (g.goes c o);
         }
-    leaf_number (Bad why) g = λ h₄ h₅ c o m. goes_refuses n text (letter_goes c o) (g c o m)
+    leaf_number (Err why) g = λ h₄ h₅ c o m. goes_refuses n text (letter_goes c o) (g c o m)

@@ -7,6 +7,9 @@ use mathlib.Core.Bool.{false}
 use mathlib.Core.List.{List, ◌∷◌}
 use lib.ListN.{length, drop, get_or, length-drop, drop_of_length-le, get_or-eq_default}
 use borrow.Author.Tests.{le-leb, lt-leb}
+use Rattle.std.specs.Prelude.{Option, Some, None, slice_get}
+use Rattle.std.specs.Option.{unwrap_or}
+use Rattle.std.proofs.lemmas.Option.{get_or_from_slice_get, unwrap_or-slice_get}
 use Rattle.refusal.specs.Answers.{refuse}
 use Rattle.refusal.specs.declared.causes.Refusal.{Refusal}
 use Rattle.refusal.specs.declared.causes.Refusal.TheVariants as cause
@@ -18,6 +21,14 @@ use Rattle.automaton.specs.Automaton.{product_with, outside_factor, after_factor
 use Rattle.automaton.proofs.Following.{InputBelow}
 use Rattle.automaton.proofs.OutcomeLaws.{below_fits}
 use Rattle.scanner.specs.Scanning.{Goes, Refuses}
+
+-- the byte that reading at an index gave, and 0 where it gave none
+module _ (text : List ℕ) (at : ℕ) {r : Option ℕ} (e : r ≡ slice_get text at) where
+  pub byte_some : {b : ℕ} → r ≡ Some b → get_or text at 0 ≡ b
+  byte_some {b} q = get_or_from_slice_get text at b 0 (sym e ∙ q)
+
+  pub byte_none : r ≡ None → get_or text at 0 ≡ 0
+  byte_none q = sym (unwrap_or-slice_get text at 0) ∙ ap (λ (o : Option ℕ). unwrap_or o 0) (sym e ∙ q)
 
 -- a byte that is not 0 stands in the text
 pub byte_inside : (text : List ℕ) (at : ℕ) → 1 ≤ get_or text at 0 → at < length text

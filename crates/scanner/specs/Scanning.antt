@@ -1,8 +1,9 @@
 -- What the scanner asks for and answers, in terms of the automaton: reading on from where it began is reading on from where it ended, whatever stands around.
-use Rattle.std.specs.Prelude.{ℕ, ◌-◌, ◌≤◌, ◌<◌, ◌≡◌, ◌≢◌, cond, List, length, drop, get_or}
+use Rattle.std.specs.Prelude.{ℕ, ◌-◌, ◌≤◌, ◌<◌, ◌≡◌, ◌≢◌, cond, List, length, drop, get_or, Option, Some, None, Result, Ok, Err}
 use Rattle.refusal.specs.Answers.{refuse}
 use Rattle.refusal.specs.declared.causes.Refusal.{Refusal}
 use Rattle.wire.specs.Limits.{most_text, most_open}
+use Rattle.node.specs.Kinds.{kind_number}
 use Rattle.node.specs.NodeBytes.{node_fields, nodes_bytes}
 use Rattle.grammar.specs.Characters.{exclamation, opening, digit0}
 use Rattle.grammar.specs.Grammar.{Factor}
@@ -10,16 +11,15 @@ use Rattle.grammar.specs.FormulaNodes.{factor_count, factor_nodes}
 use Rattle.automaton.specs.States.{AroundFactor, State, factor_next, digit_next, open_factor, made_factor}
 use Rattle.automaton.specs.Automaton.{after_factor, is_digit, read_rest}
 use Rattle.scanner.specs.declared.Leaf.{Leaf}
-use Rattle.scanner.specs.declared.Leaf.TheVariants.{Good, Bad}
 
 -- a place in a text that is not too long
 pub record Scannable (text : List ℕ) (at : ℕ) : Type 0 where
   pub short : length text ≤ most_text
   pub inside : at ≤ length text
 
--- the digit at an index, or 10 where there is none
-unfoldable pub digit_at : List ℕ → ℕ → ℕ
-digit_at text at = cond (is_digit (get_or text at 0)) (get_or text at 0 - digit0) 10
+-- the digit at an index, if one stands there
+unfoldable pub digit_at : List ℕ → ℕ → Option ℕ
+digit_at text at = cond (is_digit (get_or text at 0)) (Some (get_or text at 0 - digit0)) None
 
 -- reading on from one state and place is reading on from another
 pub record Goes (n : ℕ) (text : List ℕ) (σ : State) (at : ℕ) (τ : State) (e : ℕ) : Type 0 where
@@ -44,11 +44,11 @@ abbrev pub LeafRefused : ℕ → List ℕ → (AroundFactor → State) → ℕ �
 LeafRefused n text from at made why = (c : AroundFactor) → open_factor c ≤ most_open → made_factor c ≡ made → Refuses n text (from c) at why
 
 -- what is read behind an x
-unfoldable pub NumberRead : ℕ → List ℕ → ℕ → ℕ → Leaf → Type 0
-NumberRead n text at made (Good kind a e) = LeafEnd n text digit_next at kind a e
-NumberRead n text at made (Bad why) = LeafRefused n text digit_next at made why
+unfoldable pub NumberRead : ℕ → List ℕ → ℕ → ℕ → Result Leaf Refusal → Type 0
+NumberRead n text at made (Ok leaf) = LeafEnd n text digit_next at (kind_number leaf.kind) leaf.field leaf.end
+NumberRead n text at made (Err why) = LeafRefused n text digit_next at made why
 
 -- what is read where a factor is to come, if it is no ! and no (
-unfoldable pub LeafRead : ℕ → List ℕ → ℕ → ℕ → Leaf → Type 0
-LeafRead n text at made (Good kind a e) = LeafEnd n text factor_next at kind a e
-LeafRead n text at made (Bad why) = get_or text at 0 ≢ exclamation → get_or text at 0 ≢ opening → LeafRefused n text factor_next at made why
+unfoldable pub LeafRead : ℕ → List ℕ → ℕ → ℕ → Result Leaf Refusal → Type 0
+LeafRead n text at made (Ok leaf) = LeafEnd n text factor_next at (kind_number leaf.kind) leaf.field leaf.end
+LeafRead n text at made (Err why) = get_or text at 0 ≢ exclamation → get_or text at 0 ≢ opening → LeafRefused n text factor_next at made why

@@ -9,8 +9,10 @@ use Rattle.wire.proofs.ListLaws.{drop_next}
 use Rattle.gate.specs.declared.gates.Gate.{Gate}
 use Rattle.node.specs.Exprs.{Expr, ZERO}
 use Rattle.program.specs.Reading.{output_at}
-use Rattle.areas.specs.AreaGates.{put_gates, Stored}
-use Rattle.areas.proofs.WriterLaws.{put_length, put_none, put_append}
+use Rattle.areas.specs.AreaGates.{put_gates}
+use Rattle.appending.specs.Appending.{Appended}
+use Rattle.appending.specs.declared.writer.GateWriter.{GateWriter}
+use Rattle.areas.proofs.WriterLaws.{put_none, put_append}
 use Rattle.construction.specs.Construction.{share, circuit_gates}
 use Rattle.construction.specs.Pools.{all_free}
 use Rattle.construction.specs.Steps.{share_count}
@@ -18,6 +20,7 @@ use Rattle.construction.proofs.Numbers.{most, share_from, shares_from, most_of}
 use Rattle.construction.proofs.CountLaws.{share_length, circuit_length}
 use Rattle.construction.proofs.PoolLaws.{share_gates, tree_lines_lem, circuit_is, lines_needed_lem}
 use Rattle.program.specs.Tables.{tree_in, trees_in}
+use Rattle.progress.proofs.ProgressLaws.{appended_length}
 use Rattle.construct.specs.Writing.{Room}
 use Rattle.shares.specs.Sharing.{CircuitRoom}
 use Rattle.program.proofs.OperandLaws.{trees_length, tree_at}
@@ -63,58 +66,55 @@ module _ (nodes outputs : List ℕ) (n : ℕ) where
   unfolding shares_from
   left_none k h = ap (λ (l : List Expr). shares_from l (n + k) (n + m)) (drop_of_length-le es {i = k} (omega (arith, trees_length nodes outputs)))
 
-  -- a loop has still to write the shares from output k on, the next gate as gate `gates`
-  pub record Writing (area₀ area : List ℕ) (gates k : ℕ) : Type 0 where
+  -- a loop has still to append the shares from output k on
+  pub record Writing (area₀ : List ℕ) (w : GateWriter) (k : ℕ) : Type 0 where
     pub within : k ≤ m
-    pub same : length area ≡ length area₀
-    pub count : gates + length (left k) ≡ length (circuit_gates n es)
-    pub rest : put_gates area gates (left k) ≡ put_gates area₀ 0 (circuit_gates n es)
+    pub same : length w.area.now ≡ length area₀
+    pub count : w.count + length (left k) ≡ length (circuit_gates n es)
+    pub rest : put_gates w.area.now w.count (left k) ≡ put_gates area₀ 0 (circuit_gates n es)
 
-  module _ (area₀ : List ℕ) where
+  module _ {area₀ : List ℕ} where
     -- at first, all of them
-    pub writing_start : Writing area₀ area₀ 0 0
-    writing_start =
-        record {
+    pub writing_start : {w : GateWriter} → w.area.now ≡ area₀ → w.count ≡ 0 → Writing area₀ w 0
+    writing_start {w} same none =
+        rw (same, none)
+        (record {
           within = omega arith;
           same = refl;
           count = omega (arith, ap (λ (gs : List Gate). length gs) left_all);
           rest = ap (put_gates area₀ 0) left_all;
-        }
+        })
 
-    module _ {area : List ℕ} {gates k : ℕ} (p : Writing area₀ area gates k) where
+    module _ {w : GateWriter} {k : ℕ} (p : Writing area₀ w k) where
       -- there is room for the next share, on any target
       pub writing_room : {t : ℕ} → k < m → CircuitRoom nodes outputs n area₀ → n ≤ t → t < n + m
-          → Room nodes (output_at outputs k) t gates (n + m) (share_count 1 (tree_in nodes (output_at outputs k))) area
-      writing_room {t} h w behind taken =
+          → Room nodes (output_at outputs k) t (n + m) (share_count 1 (tree_in nodes (output_at outputs k))) w
+      writing_room {t} h r behind taken =
           let next_length : length (next k) ≡ share_count 1 (tree_in nodes (output_at outputs k)) = share_length (tree_in nodes (output_at outputs k)) (n + k) (n + m) (omega arith) in
           record {
-            valid = record { inputs = n; ordered = w.ordered; inside = w.named k h };
+            valid = record { inputs = n; ordered = r.ordered; inside = r.named k h };
             behind = behind;
             taken = taken;
-            lines = omega (arith, w.lines, lines_needed_lem n es, tree_lines_lem (tree_in nodes (output_at outputs k)) t (n + m), ap most (tree_at nodes outputs k h), most_needed es k (omega (arith, trees_length nodes outputs)));
-            few = omega (arith, w.few, p.count, left_count k h, circuit_length n es, next_length);
-            room = omega (arith, w.room, p.same, p.count, left_count k h, circuit_length n es, next_length);
+            lines = omega (arith, r.lines, lines_needed_lem n es, tree_lines_lem (tree_in nodes (output_at outputs k)) t (n + m), ap most (tree_at nodes outputs k h), most_needed es k (omega (arith, trees_length nodes outputs)));
+            room = omega (arith, r.room, p.same, p.count, left_count k h, circuit_length n es, next_length);
           }
 
       -- and then fewer are left
-      pub writing_next : {area' : List ℕ} {gates' : ℕ} → k < m → Stored (share (tree_in nodes (output_at outputs k)) (n + k) (all_free (n + m))).gates gates gates' area area' → Writing area₀ area' gates' (k + 1)
-      writing_next {area'} {gates'} h t =
-          let s : Stored (next k) gates gates' area area' = rw (share_gates (tree_in nodes (output_at outputs k)) (n + k) (n + m)) at t in
-          rw (s.count_to, s.area_to)
-          (record {
+      pub writing_next : {v : GateWriter} → k < m → Appended (share (tree_in nodes (output_at outputs k)) (n + k) (all_free (n + m))).gates w v → Writing area₀ v (k + 1)
+      writing_next {v} h t =
+          let s : Appended (next k) w v = rw (share_gates (tree_in nodes (output_at outputs k)) (n + k) (n + m)) at t in
+          record {
             within = omega arith;
-            same = put_length area gates (next k) ∙ p.same;
-            count = omega (arith, p.count, left_count k h);
-            rest = put_append area gates (next k) (left (k + 1)) ∙ ap (put_gates area gates) (sym (left_next k h)) ∙ p.rest;
-          })
+            same = appended_length s ∙ p.same;
+            count = omega (arith, p.count, left_count k h, s.stored.count_to);
+            rest =
+                rw (s.stored.count_to, s.stored.area_to)
+                (put_append w.area.now w.count (next k) (left (k + 1)) ∙ ap (put_gates w.area.now w.count) (sym (left_next k h)) ∙ p.rest);
+          }
 
       -- until none is
-      pub writing_all : m ≤ k → Stored (circuit_gates n es) 0 gates area₀ area
-      writing_all h =
-          record {
-            count_to = omega (arith, p.count, ap (λ (gs : List Gate). length gs) (left_none k h));
-            area_to = sym (put_none area gates) ∙ ap (put_gates area gates) (sym (left_none k h)) ∙ p.rest;
-          }
+      pub writing_all : m ≤ k → w.area.now ≡ put_gates area₀ 0 (circuit_gates n es)
+      writing_all h = sym (put_none w.area.now w.count) ∙ ap (put_gates w.area.now w.count) (sym (left_none k h)) ∙ p.rest
 
 -- an area of the same length can be written as well
 pub room_same : {nodes outputs area after : List ℕ} {n : ℕ} → CircuitRoom nodes outputs n area → length after ≡ length area → CircuitRoom nodes outputs n after

@@ -10,49 +10,42 @@ ghost use Rattle.construction.specs.Construction.{share, circuit_gates};
 ghost use Rattle.construction.specs.Pools.{all_free};
 ghost use Rattle.construction.specs.Steps.{share_count};
 ghost use Rattle.program.specs.Tables.{tree_in, trees_in};
-ghost use Rattle.areas.specs.AreaGates.{put_gates, Stored};
+ghost use Rattle.areas.specs.AreaGates.{put_gates};
+ghost use Rattle.appending.specs.Appending.{Appended};
 ghost use Rattle.construct.specs.Writing.{Room};
 ghost use Rattle.shares.specs.Sharing.{CircuitRoom};
 
-use appending::reverser::append_reversed;
+use appending::writer::GateWriter;
 use areas::writer::write_head;
 use circuit::reader::CircuitHead;
 use construct::builder::build;
-use pool::{LINE_NUMBERS, LinePool};
+use pool::LinePool;
 use program::reader::output_at;
 
-// Writes the share of node i with this target, from gate `gates` on; the number of gates then. The
-// lines that it took are free again, so that the next share starts with the same pool.
-fn write_share(
-    nodes: &[u8],
-    i: usize,
-    target: u16,
-    gates: usize,
-    pool: LinePool,
-    area: &mut [u8],
-) -> usize
-    requires { Room nodes.now i target gates pool.free (share_count 1 (tree_in nodes.now i)) area.old }
-    ensures { Stored (share (tree_in nodes.now i) target (all_free pool.free)).gates gates result area.old area.new }
+// Appends the share of node i with this target. The lines that it took are free again, so that the
+// next share starts with the same pool.
+fn write_share(nodes: &[u8], i: usize, target: u16, pool: LinePool, writer: &mut GateWriter<'_>)
+    requires { Room nodes.now i target pool.free (share_count 1 (tree_in nodes.now i)) writer.old }
+    ensures { Appended (share (tree_in nodes.now i) target (all_free pool.free)).gates writer.old writer.new }
 {
-    let to = build(nodes, i, target, gates, pool, area) / LINE_NUMBERS;
-    append_reversed(area, gates, to, to, target)
+    let from = writer.count;
+    build(nodes, i, target, pool, writer);
+    let to = writer.count;
+    writer.append_reversed(from, to, target);
 }
 
-// Writes the shares of all outputs over so many inputs, from the first gate on; the number of gates.
-fn write_shares(nodes: &[u8], outputs: &[u8], inputs: usize, area: &mut [u8]) -> usize
+// Stores the shares of all outputs over so many inputs, from the first gate on.
+fn write_shares(nodes: &[u8], outputs: &[u8], inputs: usize, area: &mut [u8])
     requires { CircuitRoom nodes.now outputs.now inputs area.old }
-    ensures { Stored (circuit_gates inputs (trees_in nodes.now outputs.now)) 0 result area.old area.new }
+    ensures { area.new ≡ put_gates area.old 0 (circuit_gates inputs (trees_in nodes.now outputs.now)) }
 {
     let free = inputs + outputs.len() / 2;
     let pool = LinePool { free };
-    let mut gates = 0;
-    let mut k = 0;
-    while k < outputs.len() / 2 {
+    let mut writer = GateWriter { area, count: 0 };
+    for k in 0..outputs.len() / 2 {
         let target = (inputs + k) as u16;
-        gates = write_share(nodes, output_at(outputs, k), target, gates, pool, area);
-        k += 1;
+        write_share(nodes, output_at(outputs, k), target, pool, &mut writer);
     }
-    gates
 }
 
 // Stores the head and the shares of all outputs.

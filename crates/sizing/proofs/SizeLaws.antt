@@ -3,8 +3,8 @@ use Prim.Native.Nat.{ℕ, ◌+◌, ◌/◌, ◌<◌, ◌≤◌}
 use native.Mathlib.Omega.{arith}
 use native.Mathlib.Nat.{add-zero}
 use mathlib.Core.Path.{◌≡◌, refl, sym, ap, ◌∙◌}
-use mathlib.Core.Bool.{Bool, true, false}
-use mathlib.Core.List.{List, [], ◌∷◌, ◌++◌, flat_map}
+use mathlib.Core.Bool.{Bool}
+use mathlib.Core.List.{List, [], ◌∷◌, ◌++◌, map, flat_map}
 use lib.ListN.{length, get_or, take, get_or-append}
 use lib.Seq.{get_or-take, length-take-le}
 use lib.Dec.{leb}
@@ -14,7 +14,7 @@ use Rattle.wire.specs.Shown.{shown}
 use Rattle.refusal.specs.Checks.{lowest}
 use Rattle.refusal.proofs.CheckLaws.{by_test, lowest_same}
 use Rattle.wire.proofs.FillLaws.{Filled, filled_front}
-use Rattle.wire.proofs.ShownLaws.{shown_few, shown_sum, shown_more}
+use Rattle.wire.proofs.ShownLaws.{shown_few, shown_more, shown_sum}
 use Rattle.node.specs.declared.nodes.Node.{Node}
 use Rattle.node.specs.declared.nodes.Node.TheVariants.{Zero, One, Input, Not, Xor, And}
 use Rattle.node.specs.Exprs.{Expr, ZERO, size}
@@ -22,6 +22,7 @@ use Rattle.node.specs.Nodes.{nodes_in}
 use Rattle.program.specs.Reading.{output_at}
 use Rattle.node.specs.Steps.{NextOf}
 use Rattle.node.specs.Trees.{tree_of, trees}
+use Rattle.filling.proofs.FillLaws.{item_is}
 use Rattle.node.proofs.TreeLaws.{nodes_count}
 use Rattle.node.proofs.FilledLaws.{entries_length, entry_at, entry_is}
 use Rattle.sizing.specs.Sizing.{shown_size, node_sizes}
@@ -43,6 +44,28 @@ sizes_length ns = entries_length shown_size ns
 sizes_at : (ns : List Node) (i : ℕ) → i < length ns → get_or (node_sizes ns) i 0 ≡ shown_size (get_or (trees ns) i ZERO)
 unfolding node_sizes
 sizes_at ns i h = entry_at shown_size ns i h
+
+-- where a list shows the sizes of trees, an entry is at most 16,385, and a sum of entries shows the sum of their trees' sizes
+module _ {sizes : List ℕ} (ts : List Expr) (e : sizes ≡ map shown_size ts) (a : ℕ) (h : a < length sizes) where
+  pub entry_few : get_or sizes a 0 ≤ most_size + 1
+  entry_few = rw (item_is shown_size ts e a 0 h) (shown_few most_size (size (get_or ts a ZERO)))
+
+  pub more_is : shown most_size (1 + get_or sizes a 0 + 0) ≡ shown most_size (1 + size (get_or ts a ZERO))
+  more_is = rw (add-zero, item_is shown_size ts e a 0 h) (shown_more most_size 1 (size (get_or ts a ZERO)))
+
+  pub sum_is : (b : ℕ) → b < length sizes → shown most_size (1 + get_or sizes a 0 + get_or sizes b 0) ≡ shown most_size (1 + size (get_or ts a ZERO) + size (get_or ts b ZERO))
+  sum_is b g = rw (item_is shown_size ts e a 0 h, item_is shown_size ts e b 0 g) (shown_sum most_size 1 (size (get_or ts a ZERO)) (size (get_or ts b ZERO)))
+
+module _ (body : List ℕ) where
+  -- the lowest output whose entry is too large is the lowest whose tree is
+  pub sizes_lowest : (outputs rest : List ℕ) (k : ℕ) → ((j : ℕ) → j < k → output_at outputs j < length body / 6)
+      → lowest (entry_fits (node_sizes (nodes_in body) ++ rest) outputs) k ≡ lowest (λ j. leb (size (get_or (trees (nodes_in body)) (output_at outputs j) ZERO)) most_size) k
+  sizes_lowest outputs rest k named =
+      let ns : List Node = nodes_in body in
+      let entry : (i : ℕ) → i < length body / 6 → get_or (node_sizes ns ++ rest) i 0 ≡ shown_size (get_or (trees (nodes_in body)) i ZERO) =
+      λ i h. get_or-append (node_sizes ns) rest 0 i (omega (arith, sizes_length ns, nodes_count body)) ∙ sizes_at ns i (omega (arith, nodes_count body)) in
+      lowest_same (entry_fits (node_sizes ns ++ rest) outputs) (λ (j : ℕ). leb (size (get_or (trees (nodes_in body)) (output_at outputs j) ZERO)) most_size) k
+      (λ j h. ap (λ (s : ℕ). leb s most_size) (entry (output_at outputs j) (named j h)) ∙ size_within (size (get_or (trees (nodes_in body)) (output_at outputs j) ZERO)))
 
 -- where a loop has stored the first entries of a table, each of them is at most 16,385
 pub stored_few : (ns : List Node) {list₀ list : List ℕ} {i : ℕ} → Filled (node_sizes ns) list₀ list i → (k : ℕ) → k < length (take i list) → get_or (take i list) k 0 ≤ most_size + 1
@@ -83,22 +106,3 @@ module _ {ss : List ℕ} (a b : ℕ) {r : ℕ} (h : (a < length ss) × (b < leng
   pub next_and : (m : Bool) → NextSize (And m a b) ss r
   unfolding tree_of size
   next_and m ts e = ap (λ (s : ℕ). s ∷ []) (sum ts e)
-
--- the test of the entry of output k, which names node i
-module _ (sizes outputs : List ℕ) (k : ℕ) {i : ℕ} (e : i ≡ output_at outputs k) where
-  pub entry_fits_lem : get_or sizes i 0 ≤ most_size → entry_fits sizes outputs k ≡ true
-  entry_fits_lem h = le-leb (get_or sizes (output_at outputs k) 0) most_size (rw e at h)
-
-  pub entry_large : most_size < get_or sizes i 0 → entry_fits sizes outputs k ≡ false
-  entry_large h = lt-leb (get_or sizes (output_at outputs k) 0) most_size (rw e at h)
-
-module _ (body : List ℕ) where
-  -- the lowest output whose entry is too large is the lowest whose tree is
-  pub sizes_lowest : (outputs rest : List ℕ) (k : ℕ) → ((j : ℕ) → j < k → output_at outputs j < length body / 6)
-      → lowest (entry_fits (node_sizes (nodes_in body) ++ rest) outputs) k ≡ lowest (λ j. leb (size (get_or (trees (nodes_in body)) (output_at outputs j) ZERO)) most_size) k
-  sizes_lowest outputs rest k named =
-      let ns : List Node = nodes_in body in
-      let entry : (i : ℕ) → i < length body / 6 → get_or (node_sizes ns ++ rest) i 0 ≡ shown_size (get_or (trees (nodes_in body)) i ZERO) =
-      λ i h. get_or-append (node_sizes ns) rest 0 i (omega (arith, sizes_length ns, nodes_count body)) ∙ sizes_at ns i (omega (arith, nodes_count body)) in
-      lowest_same (entry_fits (node_sizes ns ++ rest) outputs) (λ (j : ℕ). leb (size (get_or (trees (nodes_in body)) (output_at outputs j) ZERO)) most_size) k
-      (λ j h. ap (λ (s : ℕ). leb s most_size) (entry (output_at outputs j) (named j h)) ∙ size_within (size (get_or (trees (nodes_in body)) (output_at outputs j) ZERO)))

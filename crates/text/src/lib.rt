@@ -1,4 +1,4 @@
-// The lines of a listing, put into a lent buffer. Each function answers where its text ends.
+// The lines of a listing, put into a lent buffer.
 #![tactic(auto)]
 
 ghost use Rattle.circuit.specs.Circuits.{gates_in};
@@ -8,45 +8,41 @@ ghost use Rattle.line.specs.Putting.{Put, TextFits};
 use circuit::reader::CircuitHead;
 use gate::gates::Gate;
 use gate_bytes::reader::gate_at;
-use line::{put_line, put_numbers, put_word};
+use line::LineWriter;
 
 // Puts the line of a gate: its letter, its controls and its target.
-fn put_gate_line(out: &mut [u8], at: usize, gate: Gate) -> usize
-    requires { TextFits (gate_line gate) at out.old }
-    ensures { Put (gate_line gate) at result out.old out.new }
+#[tactic(auto, unfolding(crate::specs::Listings::gate_line))]
+fn put_gate_line(writer: &mut LineWriter, gate: Gate)
+    requires { TextFits (gate_line gate) writer.old }
+    ensures { Put (gate_line gate) writer.old writer.new }
 {
     match gate {
-        Gate::Not { target } => put_line(out, at, b"N", &[target as u64]),
-        Gate::Cnot { control, target } => put_line(out, at, b"C", &[control as u64, target as u64]),
+        Gate::Not { target } => writer.put_line(b"N", &[target as u64]),
+        Gate::Cnot { control, target } => writer.put_line(b"C", &[control as u64, target as u64]),
         Gate::Toffoli {
             first,
             second,
             target,
-        } => put_line(out, at, b"T", &[first as u64, second as u64, target as u64]),
+        } => writer.put_line(b"T", &[first as u64, second as u64, target as u64]),
     }
 }
 
 // Puts a line for each gate of a gate body.
-pub fn put_gate_lines(out: &mut [u8], at: usize, gates: &[u8]) -> usize
-    requires { TextFits (gate_lines (gates_in gates.now)) at out.old }
-    ensures { Put (gate_lines (gates_in gates.now)) at result out.old out.new }
+pub fn put_gate_lines(writer: &mut LineWriter, gates: &[u8])
+    requires { TextFits (gate_lines (gates_in gates.now)) writer.old }
+    ensures { Put (gate_lines (gates_in gates.now)) writer.old writer.new }
 {
-    let mut end = at;
-    let mut k = 0;
-    while k < gates.len() / 8 {
-        end = put_gate_line(out, end, gate_at(gates, k));
-        k += 1;
+    for k in 0..gates.len() / 8 {
+        put_gate_line(writer, gate_at(gates, k));
     }
-    end
 }
 
 // Puts the first line: how many inputs, outputs, work lines and gates there are.
-pub fn put_head(out: &mut [u8], at: usize, head: CircuitHead) -> usize
-    requires { TextFits (first_line head) at out.old }
-    ensures { Put (first_line head) at result out.old out.new }
+pub fn put_head(writer: &mut LineWriter, head: CircuitHead)
+    requires { TextFits (first_line head) writer.old }
+    ensures { Put (first_line head) writer.old writer.new }
 {
-    let kinds = [head.inputs as u64, head.outputs as u64, head.work as u64];
-    let after_word = put_word(out, at, b"lines");
-    let after_kinds = put_numbers(out, after_word, &kinds);
-    put_line(out, after_kinds, b" gates", &[head.gates as u64])
+    writer.put_word(b"lines");
+    writer.put_numbers(&[head.inputs as u64, head.outputs as u64, head.work as u64]);
+    writer.put_line(b" gates", &[head.gates as u64]);
 }

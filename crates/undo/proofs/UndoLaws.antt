@@ -1,5 +1,5 @@
 -- Laws of undoing a gate body into an area. Assumes nothing.
-use Prim.Native.Nat.{ℕ, ◌+◌, ◌*◌, ◌-◌, ◌/◌, ◌<◌, ◌≤◌}
+use Prim.Native.Nat.{ℕ, ◌+◌, ◌-◌, ◌/◌, ◌<◌, ◌≤◌}
 use native.Mathlib.Omega.{arith}
 use mathlib.Core.Path.{◌≡◌, refl, sym, ap, ap₂, ◌∙◌}
 use mathlib.Core.Bool.{true, false}
@@ -9,11 +9,15 @@ use lib.Dec.{leb}
 use lib.Seq.{sets}
 use borrow.Author.Tests.{le-leb, lt-leb}
 use Rattle.wire.specs.Limits.{most_gates}
-use Rattle.refusal.specs.Answers.{Answer, result, refused, refuse}
+use Rattle.refusal.specs.Answers.{Answer, result, refused, refuse, answer_of, map_answer, number_of, place_of}
+use Rattle.refusal.proofs.AnswerLaws.{Came, came, came_refused}
+use Rattle.refusal.specs.declared.causes.Refusal.{Refusal}
+use Rattle.std.specs.Prelude.{Result, Ok, Err}
 use Rattle.contents.specs.Contents.{body_of}
+use Rattle.contents.specs.Steps.{Laid}
 use Rattle.refusal.specs.declared.causes.Refusal.TheVariants as cause
 use Rattle.gate.specs.declared.gates.Gate.{Gate}
-use Rattle.gate.specs.Gates.{target, Fits}
+use Rattle.gate.specs.Gates.{target}
 use Rattle.gate_bytes.specs.GateBytes.{gate_at}
 use Rattle.gate.specs.Running.{without, uncompute}
 use Rattle.gate.proofs.UncomputeLaws.{without_append, without_few, uncompute_snoc, uncompute_length, one_out, one_kept}
@@ -21,9 +25,10 @@ use Rattle.gate.proofs.WellFormedLaws.{target_below}
 use Rattle.circuit.specs.declared.reader.CircuitHead.{CircuitHead}
 use Rattle.circuit.specs.Circuits.{Circuit, head_of, gates_in, InRange}
 use Rattle.circuit.specs.Format.{file_length, opening_bytes, circuit_file}
-use Rattle.areas.specs.AreaGates.{put_gates}
+use Rattle.areas.specs.AreaGates.{put_gates, Stored}
+use Rattle.areas.proofs.AreaLaws.{stored_none}
 use Rattle.circuit.specs.Reading.{read_with_lines}
-use Rattle.circuit.proofs.AcceptedLaws.{accepted, legal, with_lines, lines_gates, reader_room}
+use Rattle.circuit.proofs.AcceptedLaws.{accepted, legal, with_lines, lines_gates, lines_laid, lines_formed, reader_room}
 use Rattle.circuit.proofs.GateBodyLaws.{gates_from_lem, gates_none, gates_whole, gates_last, gates_first_none, gate_formed}
 use Rattle.areas.proofs.OutcomeLaws.{Outcome, outcome_refused, outcome_room, outcome_written}
 use Rattle.areas.proofs.WriterLaws.{put_length, put_none, put_append}
@@ -72,10 +77,17 @@ module _ (body choices : List ℕ) where
     counted_all h =
         omega (arith, p.rest, ap (λ (gs : List Gate). length (kept gs)) (gates_none body i (omega (arith, p.within))))
 
-  -- a gate of a body that can be undone can be looked at
-  pub choosable : Fits (gates_in body) choices → (i : ℕ) → i < length body / 8 → (8 * (i + 1) ≤ length body) × (target (gate_at body i) < length choices)
-  choosable w i h =
-      (omega arith, target_below (length choices) (gate_at body i) (gate_formed body (length choices) w i h))
+  -- a gate that is left out is not stored, and one that is kept is
+  module _ (i : ℕ) where
+    pub none_left : chosen choices (target (gate_at body i)) ≡ true → {k : ℕ} (area : List ℕ) → Stored (kept (gate_at body i ∷ [])) k k area area
+    none_left e {k} area = rw (one_out (chosen choices) (gate_at body i) e) (stored_none k area)
+
+    module _ (e : chosen choices (target (gate_at body i)) ≡ false) where
+      pub one_room : (k : ℕ) {n : ℕ} → file_length (k + length (kept (gate_at body i ∷ []))) ≤ n → file_length (k + 1) ≤ n
+      one_room k r = omega (arith, ap (λ (gs : List Gate). length gs) (one_kept (chosen choices) (gate_at body i) e), r)
+
+      pub one_stored : {g : Gate} {k r : ℕ} {area after : List ℕ} → g ≡ gate_at body i → Stored (g ∷ []) k r area after → Stored (kept (gate_at body i ∷ [])) k r area after
+      one_stored q s = rw (one_kept (chosen choices) (gate_at body i) e, sym q) s
 
   abbrev undone : List Gate → List Gate
   undone = uncompute (chosen choices)
@@ -114,14 +126,11 @@ module _ (body choices : List ℕ) where
           → file_length (k + length (kept (gate_at body (i - 1) ∷ []))) ≤ length area
       stored_room h room = omega (arith, room, p.same, p.few, counts_last h)
 
-      pub stored_next : {area' : List ℕ} {k' : ℕ} → 0 < i
-          → area' ≡ put_gates area k (kept (gate_at body (i - 1) ∷ []))
-          → k' ≡ k + length (kept (gate_at body (i - 1) ∷ []))
-          → UndoneStored area₀ area' k' (i - 1)
-      stored_next {area'} {k'} h e g =
+      pub stored_next : {area' : List ℕ} {k' : ℕ} → 0 < i → Stored (kept (gate_at body (i - 1) ∷ [])) k k' area area' → UndoneStored area₀ area' k' (i - 1)
+      stored_next {area'} {k'} h s =
           let one : List Gate = kept (gate_at body (i - 1) ∷ []) in
           let more : List Gate = undone (take (i - 1) (gates_in body)) in
-          rw (e, g) (record {
+          rw (s.area_to, s.count_to) (record {
             within = omega (arith, p.within);
             same = put_length area k one ∙ p.same;
             few = omega (arith, p.few, counts_last h);
@@ -207,3 +216,54 @@ module _ (f choices area : List ℕ) where
         let d : Circuit = undo_circuit choices c in
         let test : leb (length (circuit_file d)) (length area) ≡ true = le-leb (length (circuit_file d)) (length area) (omega (arith, fits k q)) in
         outcome_written area d (rw (e, test) refl) (omega (arith, room, undo_count k q)) e₁ (e₂ ∙ ap (put_gates area₁ 0) (sym undo_gates))
+
+-- undoing a file into an area, by what the reader answers with the choices
+module _ (f choices area : List ℕ) {r : Result CircuitHead Refusal} (read : answer_of r ≡ map_answer head_of (read_with_lines f choices)) where
+  -- a refusal is passed on
+  pub undo_passed : {why : Refusal} → r ≡ Err why → Undoes f choices area (refuse why) area
+  undo_passed {why} g =
+      undo_refused f choices area (number_of why) (place_of why) (came_refused head_of (read_with_lines f choices) (number_of why) (place_of why) (sym (ap answer_of g) ∙ read))
+
+  -- a head: the circuit was read
+  module _ {h : CircuitHead} (g : r ≡ Ok h) where
+    good : Came head_of (read_with_lines f choices) h
+    good = came head_of (read_with_lines f choices) h (sym (ap answer_of g) ∙ read)
+
+    pub read_laid : Laid 2 f
+    read_laid = lines_laid f choices good.from good.was
+
+    -- and its gates that remain were counted
+    module _ {gates : List ℕ} (b : gates ≡ body_of f 1) where
+      pub read_range : (i : ℕ) → i < length gates / 8 → target (gate_at gates i) < length choices
+      read_range i h = target_below (length choices) (gate_at gates i) (gate_formed gates (length choices) (rw b (lines_formed f choices good.from good.was)) i h)
+
+      module _ {k : ℕ} (q : k ≡ length (without (chosen choices) (gates_in gates))) where
+        counted : k ≡ length (without (chosen choices) (gates_in (body_of f 1)))
+        counted = q ∙ ap (λ (s : List ℕ). length (without (chosen choices) (gates_in s))) b
+
+        abbrev head : CircuitHead
+        head = record { inputs = h.inputs; outputs = h.outputs; work = h.work; gates = k }
+
+        head_undone : head ≡ head_of (undo_circuit choices good.from)
+        head_undone = undo_head f choices area good.from good.was h k good.reads counted
+
+        pub counted_few : k ≤ most_gates
+        counted_few = omega (arith, counted, kept_few f choices area good.from good.was)
+
+        pub counted_room : {n : ℕ} → n ≡ file_length k → length area < n → Undoes f choices area (refuse (cause.Room k)) (replicate (length area) 0)
+        counted_room e short = undo_room f choices area good.from good.was k counted (omega arith)
+
+        pub counted_head : InRange head
+        counted_head = rw head_undone (undo_range f choices area good.from good.was)
+
+        pub counted_length : length (uncompute (chosen choices) (gates_in gates)) ≡ k
+        counted_length = uncompute_length (chosen choices) (gates_in gates) ∙ sym q
+
+        pub counted_written : {n : ℕ} {area₁ area₂ : List ℕ} → n ≡ file_length k → n ≤ length area
+            → area₁ ≡ sets area 0 (opening_bytes head) → area₂ ≡ put_gates area₁ 0 (uncompute (chosen choices) (gates_in gates))
+            → Undoes f choices area (result head) area₂
+        counted_written {n} {area₁} {area₂} e room e₁ e₂ =
+            let o = undo_written f choices area good.from good.was k counted (omega arith)
+            (e₁ ∙ ap (λ (x : CircuitHead). sets area 0 (opening_bytes x)) head_undone)
+            (e₂ ∙ ap (λ (s : List ℕ). put_gates area₁ 0 (uncompute (chosen choices) (gates_in s))) b) in
+            record { answer = ap result head_undone ∙ o.answer; area_is = o.area_is }

@@ -1,15 +1,12 @@
 -- Undoing a circuit file except on chosen lines.
 use Rattle.std.specs.Prelude.{ℕ, Bool, List, length, eqb, leb}
-use Rattle.refusal.specs.Answers.{Answer, result, refuse, check, and_then}
+use Rattle.refusal.specs.Answers.{Answer, result, check, and_then}
 use Rattle.wire.specs.Bits.{bit}
 use Rattle.refusal.specs.declared.causes.Refusal.TheVariants as cause
 use Rattle.gate.specs.Running.{uncompute}
-use Rattle.circuit.specs.declared.reader.CircuitHead.{CircuitHead}
 use Rattle.circuit.specs.Circuits.{Circuit}
 use Rattle.circuit.specs.Format.{circuit_file}
 use Rattle.circuit.specs.Reading.{read_with_lines}
-use Rattle.undo.specs.declared.Undone.{Undone}
-use Rattle.undo.specs.declared.Undone.TheVariants.{Written, Refused}
 
 -- line i is chosen: its choice byte (01) is 1, and gates with this target are left out
 abbrev pub chosen : List ℕ → ℕ → Bool
@@ -26,8 +23,3 @@ undo_file file choices room =
     and_then (read_with_lines file choices) (λ c.
     check (leb (length (circuit_file (undo_circuit choices c))) room) (cause.Room (length (undo_circuit choices c).gates))  -- 11
     (result (undo_circuit choices c)))
-
--- the service's answer in 01's terms: the numbers of the circuit written, or a number and a place
-abbrev pub undone : Undone → Answer CircuitHead
-undone (Written head) = result head
-undone (Refused why) = refuse why

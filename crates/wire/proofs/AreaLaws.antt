@@ -6,8 +6,10 @@ use native.Mathlib.Numerals.{add-one}
 use mathlib.Core.Path.{◌≡◌, refl, sym, ap, ◌∙◌}
 use mathlib.Core.Logic.{◌≢◌}
 use mathlib.Core.List.{List, ◌++◌, append-nil}
-use lib.ListN.{length, get_or, set, drop, replicate, length-set, length-replicate, get_or-replicate, drop_of_length-le}
-use lib.Seq.{sets, sets-eq}
+use lib.ListN.{length, get_or, set, take, drop, replicate, length-set, length-replicate, get_or-replicate, drop_of_length-le}
+use lib.Seq.{sets, sets-eq, paste, take_all}
+use borrow.Rule.Slice.PartMut.{put_mid}
+use Rattle.std.proofs.lemmas.Slice.{put_mid-paste}
 use borrow.Author.Tests.{ne_eqb}
 use Rattle.refusal.specs.Answers.{result, refused}
 use Rattle.wire.specs.Areas.{area_after}
@@ -17,6 +19,14 @@ use Rattle.wire.proofs.FillLaws.{Filled, filled_next, filled_all}
 -- bytes that are stored at the start of an area leave it as a result does
 pub area_written : (bytes area : List ℕ) {after : List ℕ} → length bytes ≤ length area → after ≡ sets area 0 bytes → after ≡ area_after (result bytes) area
 area_written bytes area room e = e ∙ sets-eq bytes area 0 (omega arith) ∙ ap (λ (n : ℕ). bytes ++ drop n area) (zero-add (length bytes))
+
+-- bytes that are copied into a part of an area, with k the length of the part, leave the area with the bytes stored there
+pub part_stored : (bytes area : List ℕ) (at k : ℕ) {copied : List ℕ} → copied ≡ bytes → k ≡ length bytes → at + length bytes ≤ length area → put_mid at k area copied ≡ sets area at bytes
+part_stored bytes area at k {copied} e l room =
+    put_mid-paste at k area copied bytes k e refl l
+    ∙ ap (paste area at bytes) l
+    ∙ ap (λ (b : List ℕ). take at area ++ b ++ drop (at + length bytes) area) (take_all (length bytes) bytes (omega arith))
+    ∙ sym (sets-eq bytes area at room)
 
 -- a refusal other than 11 leaves the area as it was
 pub area_kept : (n p : ℕ) (area : List ℕ) → n ≢ 11 → area_after (refused n p) area ≡ area

@@ -1,8 +1,13 @@
 -- Laws of bits. Assumes nothing.
-use Prim.Native.Nat.{ℕ, ◌*◌, ◌<◌}
+use Prim.Native.Nat.{ℕ, zero, suc, ◌*◌, ◌<◌}
+use Rattle.std.specs.Prelude.{bit_xor}
+use Rattle.std.specs.List.{list_all}
+use Rattle.std.specs.Cmp.{both_ways}
+use Rattle.std.proofs.lemmas.List.{get_or_default}
+use Rattle.std.proofs.lemmas.List.Sums.{AllPass-from_list_all, list_all-from_AllPass}
 use native.Mathlib.Omega.{arith}
 use native.Mathlib.Nat.{zero-mul, one-mul}
-use mathlib.Core.Path.{◌≡◌}
+use mathlib.Core.Path.{◌≡◌, refl, ap, ◌∙◌}
 use mathlib.Core.Bool.{true}
 use mathlib.Core.List.{List}
 use lib.ListN.{length, take, length-take, get_or-eq_default}
@@ -12,6 +17,16 @@ use borrow.Author.Tests.{eqb-true, ltb-true, ltb-false, eqb-false, eq-eqb, lt-lt
 use Rattle.wire.specs.Bits.{xor_bit, bit, Bits, bits_fit}
 use Rattle.refusal.specs.Checks.{all_below}
 use Rattle.refusal.proofs.CheckLaws.{by_test, both_first, both_second, all_below_lem, below_all}
+
+-- what `^` gives of bits is their XOR
+pub xor_bit_is : (a b : ℕ) → a < 2 → b < 2 → bit_xor a b ≡ xor_bit a b
+unfolding xor_bit
+xor_bit_is zero zero h g = refl
+xor_bit_is zero (suc zero) h g = refl
+xor_bit_is (suc zero) zero h g = refl
+xor_bit_is (suc zero) (suc zero) h g = refl
+xor_bit_is (suc (suc a)) b h g = absurd (omega (arith, h))
+xor_bit_is a (suc (suc b)) h g = absurd (omega (arith, g))
 
 -- XOR and AND of bits are bits
 pub xor_bit_lem : (a b : ℕ) → xor_bit a b < 2
@@ -71,3 +86,10 @@ unfolding bits_fit
 bits_pass n s e b =
     rw (eq-eqb (length s) n e)
     (below_all (λ (k : ℕ). ltb (bit s k) 2) (length s) (λ i h. lt-ltb (bit s i) 2 (b i h)))
+
+-- a test of every byte is the test by index
+pub all_bits : (s : List ℕ) → list_all (λ b. ltb b 2) s ≡ all_below (λ i. ltb (bit s i) 2) (length s)
+all_bits s =
+    both_ways _ _
+    (λ e. below_all (λ i. ltb (bit s i) 2) (length s) (λ j h. AllPass-from_list_all (λ b. ltb b 2) s e j 0 h))
+    (λ e. list_all-from_AllPass (λ b. ltb b 2) s (λ j d h. ap (λ (b : ℕ). ltb b 2) (get_or_default s j d 0 h) ∙ all_below_lem (λ i. ltb (bit s i) 2) (length s) e j h))

@@ -7,7 +7,7 @@ pub fn xor_bits(a: u8, b: u8) -> u8
     requires { (a < 2) × (b < 2) }
     ensures { result ≡ xor_bit a b }
 {
-    (a + b) % 2
+    a ^ b
 }
 
 // The AND of two bits.
@@ -15,25 +15,12 @@ pub fn and_bits(a: u8, b: u8) -> u8
     requires { (a < 2) × (b < 2) }
     ensures { result ≡ a * b }
 {
-    if a == 0 {
-        return 0;
-    }
-    b
+    a & b
 }
 
 // Whether there are count bytes and each is 0 or 1.
 pub fn bits_fit(s: &[u8], count: usize) -> bool
     ensures { result ≡ bits_fit count s.now }
 {
-    if s.len() != count {
-        return false;
-    }
-    let mut i = 0;
-    while i < s.len() {
-        if 1 < s[i] {
-            return false;
-        }
-        i += 1;
-    }
-    true
+    s.len() == count && s.iter().all(|b| *b <= 1)
 }

@@ -1,8 +1,6 @@
-// Numbers of 16 and 32 bits and single bits, as they are kept in bytes, the limits of files, and
-// lent areas.
+// Numbers of 16 and 32 bits and single bits, as they are kept in bytes, and the limits of files.
 #![tactic(auto)]
 
-pub mod areas;
 pub mod bits;
 pub mod limits;
 pub mod numbers;

@@ -1,4 +1,4 @@
--- Laws of nodes' words: each is made of its operands' words by one operation on words. Assumes nothing.
+-- Laws of trees' words: each is made of its operands' words by one operation on words. Assumes nothing.
 use Prim.Native.Nat.{ℕ, ◌-◌, ◌*◌, ◌^◌, ◌<◌}
 use native.Mathlib.Omega.{arith}
 use mathlib.Core.Path.{◌≡◌, sym, ap, ap₂, ◌∙◌}
@@ -41,6 +41,45 @@ module _ (x : List ℕ) where
     pub value_word_is : (w : ℕ) → w < 2 ^ question_count → ((k : ℕ) → k < question_count → word_bit w k ≡ value e (question x k)) → w ≡ value_word e x
     unfolding value_word
     value_word_is w l h = word_is (λ k. value e (question x k)) w question_count l h
+
+-- the word of a tree is made of its operands' words by one operation
+module _ (x : List ℕ) where
+  pub zero_is : 0 ≡ value_word ZERO x
+  unfolding value
+  zero_is = value_word_is x ZERO 0 (omega arith) (λ k h. zero_bit k)
+
+  pub one_is : 2 ^ question_count - 1 ≡ value_word ONE x
+  unfolding value
+  one_is = value_word_is x ONE (2 ^ question_count - 1) (ones_lt question_count) (λ k h. ones_bit question_count k h)
+
+  pub input_is : (j : ℕ) → get_or x j 0 < 2 ^ question_count → get_or x j 0 ≡ value_word (INPUT j) x
+  unfolding value
+  input_is j l = value_word_is x (INPUT j) (get_or x j 0) l (λ k h. sym (bits_at_lem k x j))
+
+  -- NOT is 1 XOR its operand (001), on every question
+  pub not_is : (a : Expr) → bit_xor (2 ^ question_count - 1) (value_word a x) ≡ value_word (NOT a) x
+  unfolding value
+  not_is a =
+      let v : ℕ = value_word a x in
+      value_word_is x (NOT a) (bit_xor (2 ^ question_count - 1) v) (xor_lt question_count (2 ^ question_count - 1) v (ones_lt question_count) (value_word_below x a))
+      (λ k h. not_word v question_count k h ∙ ap (xor_bit 1) (value_word_bit x a k h))
+
+  module _ (a b : Expr) where
+    pub xor_is : bit_xor (value_word a x) (value_word b x) ≡ value_word (XOR a b) x
+    unfolding value
+    xor_is =
+        let v : ℕ = value_word a x in
+        let w : ℕ = value_word b x in
+        value_word_is x (XOR a b) (bit_xor v w) (xor_lt question_count v w (value_word_below x a) (value_word_below x b))
+        (λ k h. xor_word v w k ∙ ap₂ xor_bit (value_word_bit x a k h) (value_word_bit x b k h))
+
+    pub and_is : (m : Bool) → bit_and (value_word a x) (value_word b x) ≡ value_word (AND m a b) x
+    unfolding value
+    and_is m =
+        let v : ℕ = value_word a x in
+        let w : ℕ = value_word b x in
+        value_word_is x (AND m a b) (bit_and v w) (and_lt question_count v w (value_word_below x a) (value_word_below x b))
+        (λ k h. and_word v w k ∙ ap₂ (λ (c d : ℕ). c * d) (value_word_bit x a k h) (value_word_bit x b k h))
 
 -- what a node adds to a list of words, by its kind: where the list has the words of trees, its word is made of its operands' entries
 module _ (x : List ℕ) where

@@ -22,7 +22,7 @@ use Rattle.word_values.proofs.WordBitLaws.{bits_at_length, bits_at_lem, word_is,
 use Rattle.word_values.proofs.WordValueLaws.{question_bits, value_word_below, value_word_bit}
 use Rattle.program.specs.Programs.{Program, output_tree, output_value}
 use Rattle.evaluate.specs.Evaluating.{evaluate_of}
-use Rattle.evaluate.proofs.AskedLaws.{Evaluable, Outcome, outcome_is, answer_of}
+use Rattle.evaluate.proofs.AskedLaws.{Evaluable, Outcome, outcome_is, answered}
 use Rattle.evaluate.proofs.EvaluateLaws.{value_on, bytes_fit, evaluate_outcome}
 use Rattle.words.specs.EvaluatingWords.{output_word, evaluate_words_of}
 use Rattle.words.specs.Theorems.{EveryCall, QuestionAnswered, EachQuestion, WholeWords, input_word, input_words, AnyQuestions}
@@ -105,7 +105,7 @@ module _ (file list x : List ℕ) (output : ℕ) (p : Program) (a : Evaluable (c
 pub each_question : EachQuestion
 each_question file list x output word e =
     let o : Outcome (word_on x) (count_fits x) file list output (result word) (evaluate_words_of file list x output).values = rw e at (words_outcome file list x output) in
-    let c = answer_of (word_on x) (count_fits x) file list output o in
+    let c = answered (word_on x) (count_fits x) file list output o in
     record {
       program = c.program;
       read = c.evaluable.read;

@@ -1,14 +1,12 @@
 -- Evaluating an output on 64 questions, check by check in the order of 01's table.
 use Rattle.std.specs.Prelude.{ℕ, List, ◌++◌, length, drop, eqb, leb, ltb}
-use Rattle.refusal.specs.Answers.{Answer, result, refused, refuse, check, and_then, map_answer}
+use Rattle.refusal.specs.Answers.{Answer, result, refused, check, and_then, map_answer}
 use Rattle.refusal.specs.declared.causes.Refusal.TheVariants as cause
 use Rattle.word_values.specs.WordBits.{question_count, word_of}
 use Rattle.word_values.specs.WordValues.{question, node_words}
 use Rattle.program.specs.Programs.{Program, output_value}
 use Rattle.program.specs.Reading.{read_program}
 use Rattle.evaluate.specs.Evaluating.{Evaluating}
-use Rattle.words.specs.declared.WordEvaluated.{WordEvaluated}
-use Rattle.words.specs.declared.WordEvaluated.TheVariants.{Word, Refused}
 
 -- the word of an output: its bit k is the output's value on question k
 unfoldable pub output_word : Program → List ℕ → ℕ → ℕ
@@ -35,8 +33,3 @@ evaluate_words_of file list inputs output =
       answer = map_answer (λ p. output_word p inputs output) (words_file file (length list) (length inputs) output);
       values = words_after (words_file file (length list) (length inputs) output) inputs list;
     }
-
--- the service's answer in 01's terms: the output's word, or a number and a place
-abbrev pub word_evaluated : WordEvaluated → Answer ℕ
-word_evaluated (Word word) = result word
-word_evaluated (Refused why) = refuse why

@@ -3,49 +3,42 @@
 #![tactic(auto)]
 
 ghost use Rattle.std.specs.Prelude.{◌≡◌};
-ghost use Rattle.words.specs.EvaluatingWords.{evaluate_words_of, word_evaluated};
+ghost use Rattle.refusal.specs.Answers.{answer_of};
+ghost use Rattle.words.specs.EvaluatingWords.{evaluate_words_of};
 
-use program::reader::{ProgramRead, node_body, output_at, output_body, read_program};
+use program::reader::{node_body, output_at, output_body, read_program};
 use refusal::causes::Refusal;
 use word_values::fill_words;
 
-// What evaluating an output on 64 questions answers.
-#[derive(Clone, Copy)]
-pub enum WordEvaluated {
-    Word(u64),
-    Refused(Refusal),
-}
-
-// The reader's refusal, passed on.
-fn refused(answer: ProgramRead) -> WordEvaluated
-    ensures { (why : Refusal) → answer ≡ ProgramRead.Refused why → result ≡ WordEvaluated.Refused why }
-{
-    match answer {
-        ProgramRead::Refused(why) => WordEvaluated::Refused(why),
-        ProgramRead::Good(_) => WordEvaluated::Refused(Refusal::Table),
-    }
-}
-
 // The word of an output of a program file on the input words. The value list is filled with every
 // node's word; on a refusal it is as it was.
-pub fn evaluate_words(file: &[u8], values: &mut [u64], inputs: &[u64], output: u64) -> WordEvaluated
-    ensures result_value { word_evaluated result ≡ (evaluate_words_of file.now values.old inputs.now output).answer }
+//
+// This and evaluate are two functions, as each has a test of the inputs of its own, on which its
+// fold stands: one function for both would have the fold made by a closure between its checks,
+// which is no plainer. Their laws are the same (AskedLaws).
+pub fn evaluate_words(
+    file: &[u8],
+    values: &mut [u64],
+    inputs: &[u64],
+    output: u64,
+) -> Result<u64, Refusal>
+    ensures result_value { answer_of result ≡ (evaluate_words_of file.now values.old inputs.now output).answer }
     ensures values_after { values.new ≡ (evaluate_words_of file.now values.old inputs.now output).values }
 {
-    let answer = read_program(file);
-    let ProgramRead::Good(head) = answer else {
-        return refused(answer);
+    // Document 01 names this form: the reader's answer taken apart by let .. else.
+    let read = read_program(file);
+    let Ok(head) = read else {
+        return Err(read.unwrap_err());
     };
     if values.len() < head.nodes {
-        return WordEvaluated::Refused(Refusal::ListLength);
+        return Err(Refusal::ListLength);
     }
     if inputs.len() != head.inputs {
-        return WordEvaluated::Refused(Refusal::InputBytes);
+        return Err(Refusal::InputBytes);
     }
     if head.outputs as u64 <= output {
-        return WordEvaluated::Refused(Refusal::OutputNumber);
+        return Err(Refusal::OutputNumber);
     }
     fill_words(node_body(file), inputs, values);
-    let node = output_at(output_body(file), output as usize);
-    WordEvaluated::Word(values[node])
+    Ok(values[output_at(output_body(file), output as usize)])
 }

@@ -1,5 +1,6 @@
 use native.Mathlib.Omega.{arith}
 use mathlib.Core.Path.{◌≡◌, sym, ap, ◌∙◌}
+use mathlib.Core.Bool.{not}
 use Rattle.node.specs.declared.nodes.Node.TheVariants as node
 use Rattle.node.specs.Exprs.{ZERO, ONE, INPUT, NOT, XOR, AND, size}
 use Rattle.node.specs.Trees.{tree_of}
@@ -10,7 +11,7 @@ use Rattle.counting.proofs.CountedLaws as law
 use Rattle.counting.proofs.CountedLaws.{Made, made_input, made_built, made_use, countable_operand}
 use Prim.Native.Nat.{◌+◌, ◌*◌}
 use Rattle.counting.proofs.+count.Goals as goal
-use Rattle.counting.proofs.+count.Goals.{then-is_built, else-is_built, then-is_built-2, else-is_built-2, then-marked, else-marked}
+use Rattle.counting.proofs.+count.Goals.{then-is_none, else-is_none, then-is_none-2, else-is_none-2, then-marked, else-marked}
 
 pub node_at-node-requires : goal.node_at-node-requires
 node_at-node-requires t c = node_there c.requires.0.valid
@@ -45,8 +46,8 @@ count-requires-in-Xor t c =
     let xor_size : size (tree_in c.args.nodes.now c.args.i) ≡ 1 + size (tree_in c.args.nodes.now c.in-Xor.a) + size (tree_in c.args.nodes.now c.in-Xor.b) = ap size as_xor.is in
     let k = as_xor in (omega (arith, k.second.low), (countable_operand c.requires.0 k.second, law.xor_second c.requires.1 _ _ xor_size c.count-first.ensures))
 
-pub is_built-requires : goal.is_built-requires
-is_built-requires t c =
+pub input_of-requires : goal.input_of-requires
+input_of-requires t c =
     let as_and : Binary (AND c.in-And.marked) c.args.nodes.now c.args.i c.in-And.a c.in-And.b = is_and c.requires.0.valid (sym c.node_at-node.ensures ∙ c.in-And.is) in
     as_and.first.valid
 
@@ -64,34 +65,34 @@ count-made-requires t c =
     let and_size : size (tree_in c.args.nodes.now c.args.i) ≡ 1 + size (tree_in c.args.nodes.now c.in-And.a) + size (tree_in c.args.nodes.now c.in-And.b) = ap size as_and.is in
     let k = as_and in (omega (arith, k.first.low), (countable_operand c.requires.0 k.first, law.first_room c.requires.1 _ _ and_size c.take_line.ensures))
 
-pub is_built-requires-in-And : goal.is_built-requires-in-And
-is_built-requires-in-And t c =
+pub input_of-requires-in-And : goal.input_of-requires-in-And
+input_of-requires-in-And t c =
     let as_and : Binary (AND c.in-And.marked) c.args.nodes.now c.args.i c.in-And.a c.in-And.b = is_and c.requires.0.valid (sym c.node_at-node.ensures ∙ c.in-And.is) in
     as_and.second.valid
 
-pub take_line-requires-then-is_built-2 : goal.take_line-requires-then-is_built-2
+pub take_line-requires-then-is_none-2 : goal.take_line-requires-then-is_none-2
 unfolding size
-take_line-requires-then-is_built-2 t c =
+take_line-requires-then-is_none-2 t c =
     let as_and : Binary (AND c.in-And.marked) c.args.nodes.now c.args.i c.in-And.a c.in-And.b = is_and c.requires.0.valid (sym c.node_at-node.ensures ∙ c.in-And.is) in
     let and_size : size (tree_in c.args.nodes.now c.args.i) ≡ 1 + size (tree_in c.args.nodes.now c.in-And.a) + size (tree_in c.args.nodes.now c.in-And.b) = ap size as_and.is in
-    let first_made : Made (tree_in c.args.nodes.now c.in-And.a) c.args.state c.if-is_built.made = let take = law.take_first c.requires.1 _ _ and_size in elim c.if-is_built.branch [ then-is_built w ↦ rw w.made-is (made_built take.2 take.1 (sym c.is_built.ensures ∙ w.if-is_built.true) w.take_line.ensures w.count-made.ensures) | else-is_built w ↦ made_input c.requires.1.in_use (sym c.is_built.ensures ∙ w.if-is_built.false) w.made-is ] in
+    let first_made : Made (tree_in c.args.nodes.now c.in-And.a) c.args.state c.if-is_none.made = let take = law.take_first c.requires.1 _ _ and_size in elim c.if-is_none.branch [ then-is_none w ↦ rw w.made-is (made_built _ c.input_of.ensures take.2 take.1 (c.is_none.ensures ∙ ap not w.if-is_none.true) w.take_line.ensures w.count-made.ensures) | else-is_none w ↦ made_input _ c.input_of.ensures c.requires.1.in_use (c.is_none.ensures ∙ ap not w.if-is_none.false) w.made-is ] in
     law.take_second c.requires.1 _ _ and_size first_made
 
-pub count-made-requires-then-is_built-2 : goal.count-made-requires-then-is_built-2
+pub count-made-requires-then-is_none-2 : goal.count-made-requires-then-is_none-2
 unfolding size
-count-made-requires-then-is_built-2 t c =
+count-made-requires-then-is_none-2 t c =
     let as_and : Binary (AND c.in-And.marked) c.args.nodes.now c.args.i c.in-And.a c.in-And.b = is_and c.requires.0.valid (sym c.node_at-node.ensures ∙ c.in-And.is) in
     let and_size : size (tree_in c.args.nodes.now c.args.i) ≡ 1 + size (tree_in c.args.nodes.now c.in-And.a) + size (tree_in c.args.nodes.now c.in-And.b) = ap size as_and.is in
-    let first_made : Made (tree_in c.args.nodes.now c.in-And.a) c.args.state c.if-is_built.made = let take = law.take_first c.requires.1 _ _ and_size in elim c.if-is_built.branch [ then-is_built w ↦ rw w.made-is (made_built take.2 take.1 (sym c.is_built.ensures ∙ w.if-is_built.true) w.take_line.ensures w.count-made.ensures) | else-is_built w ↦ made_input c.requires.1.in_use (sym c.is_built.ensures ∙ w.if-is_built.false) w.made-is ] in
-    let k = as_and in (omega (arith, k.second.low), (countable_operand c.requires.0 k.second, law.second_room c.requires.1 _ _ and_size first_made c.take_line-then-is_built-2.ensures))
+    let first_made : Made (tree_in c.args.nodes.now c.in-And.a) c.args.state c.if-is_none.made = let take = law.take_first c.requires.1 _ _ and_size in elim c.if-is_none.branch [ then-is_none w ↦ rw w.made-is (made_built _ c.input_of.ensures take.2 take.1 (c.is_none.ensures ∙ ap not w.if-is_none.true) w.take_line.ensures w.count-made.ensures) | else-is_none w ↦ made_input _ c.input_of.ensures c.requires.1.in_use (c.is_none.ensures ∙ ap not w.if-is_none.false) w.made-is ] in
+    let k = as_and in (omega (arith, k.second.low), (countable_operand c.requires.0 k.second, law.second_room c.requires.1 _ _ and_size first_made c.take_line-then-is_none-2.ensures))
 
 pub count_cleaning-made-requires : goal.count_cleaning-made-requires
 unfolding size
 count_cleaning-made-requires t c =
     let as_and : Binary (AND c.in-And.marked) c.args.nodes.now c.args.i c.in-And.a c.in-And.b = is_and c.requires.0.valid (sym c.node_at-node.ensures ∙ c.in-And.is) in
     let and_size : size (tree_in c.args.nodes.now c.args.i) ≡ 1 + size (tree_in c.args.nodes.now c.in-And.a) + size (tree_in c.args.nodes.now c.in-And.b) = ap size as_and.is in
-    let first_made : Made (tree_in c.args.nodes.now c.in-And.a) c.args.state c.if-is_built.made = let take = law.take_first c.requires.1 _ _ and_size in elim c.if-is_built.branch [ then-is_built w ↦ rw w.made-is (made_built take.2 take.1 (sym c.is_built.ensures ∙ w.if-is_built.true) w.take_line.ensures w.count-made.ensures) | else-is_built w ↦ made_input c.requires.1.in_use (sym c.is_built.ensures ∙ w.if-is_built.false) w.made-is ] in
-    let second_made : Made (tree_in c.args.nodes.now c.in-And.b) c.if-is_built.made c.if-is_built-2.made = let first = first_made in let take = law.take_second c.requires.1 _ _ and_size first in elim c.if-is_built-2.branch [ then-is_built-2 w ↦ rw w.made-is (made_built take.2 take.1 (sym c.is_built-in-And.ensures ∙ w.if-is_built-2.true) w.take_line-then-is_built-2.ensures w.count-made-then-is_built-2.ensures) | else-is_built-2 w ↦ made_input (made_use first c.requires.1.in_use) (sym c.is_built-in-And.ensures ∙ w.if-is_built-2.false) w.made-is ] in
+    let first_made : Made (tree_in c.args.nodes.now c.in-And.a) c.args.state c.if-is_none.made = let take = law.take_first c.requires.1 _ _ and_size in elim c.if-is_none.branch [ then-is_none w ↦ rw w.made-is (made_built _ c.input_of.ensures take.2 take.1 (c.is_none.ensures ∙ ap not w.if-is_none.true) w.take_line.ensures w.count-made.ensures) | else-is_none w ↦ made_input _ c.input_of.ensures c.requires.1.in_use (c.is_none.ensures ∙ ap not w.if-is_none.false) w.made-is ] in
+    let second_made : Made (tree_in c.args.nodes.now c.in-And.b) c.if-is_none.made c.if-is_none-2.made = let first = first_made in let take = law.take_second c.requires.1 _ _ and_size first in elim c.if-is_none-2.branch [ then-is_none-2 w ↦ rw w.made-is (made_built _ c.input_of-in-And.ensures take.2 take.1 (c.is_none-in-And.ensures ∙ ap not w.if-is_none-2.true) w.take_line-then-is_none-2.ensures w.count-made-then-is_none-2.ensures) | else-is_none-2 w ↦ made_input _ c.input_of-in-And.ensures (made_use first c.requires.1.in_use) (c.is_none-in-And.ensures ∙ ap not w.if-is_none-2.false) w.made-is ] in
     law.operands_made c.requires.1 _ _ and_size first_made second_made
 
 pub count_own-requires-in-And : goal.count_own-requires-in-And
@@ -99,8 +100,8 @@ unfolding size
 count_own-requires-in-And t c =
     let as_and : Binary (AND c.in-And.marked) c.args.nodes.now c.args.i c.in-And.a c.in-And.b = is_and c.requires.0.valid (sym c.node_at-node.ensures ∙ c.in-And.is) in
     let and_size : size (tree_in c.args.nodes.now c.args.i) ≡ 1 + size (tree_in c.args.nodes.now c.in-And.a) + size (tree_in c.args.nodes.now c.in-And.b) = ap size as_and.is in
-    let first_made : Made (tree_in c.args.nodes.now c.in-And.a) c.args.state c.if-is_built.made = let take = law.take_first c.requires.1 _ _ and_size in elim c.if-is_built.branch [ then-is_built w ↦ rw w.made-is (made_built take.2 take.1 (sym c.is_built.ensures ∙ w.if-is_built.true) w.take_line.ensures w.count-made.ensures) | else-is_built w ↦ made_input c.requires.1.in_use (sym c.is_built.ensures ∙ w.if-is_built.false) w.made-is ] in
-    let second_made : Made (tree_in c.args.nodes.now c.in-And.b) c.if-is_built.made c.if-is_built-2.made = let first = first_made in let take = law.take_second c.requires.1 _ _ and_size first in elim c.if-is_built-2.branch [ then-is_built-2 w ↦ rw w.made-is (made_built take.2 take.1 (sym c.is_built-in-And.ensures ∙ w.if-is_built-2.true) w.take_line-then-is_built-2.ensures w.count-made-then-is_built-2.ensures) | else-is_built-2 w ↦ made_input (made_use first c.requires.1.in_use) (sym c.is_built-in-And.ensures ∙ w.if-is_built-2.false) w.made-is ] in
+    let first_made : Made (tree_in c.args.nodes.now c.in-And.a) c.args.state c.if-is_none.made = let take = law.take_first c.requires.1 _ _ and_size in elim c.if-is_none.branch [ then-is_none w ↦ rw w.made-is (made_built _ c.input_of.ensures take.2 take.1 (c.is_none.ensures ∙ ap not w.if-is_none.true) w.take_line.ensures w.count-made.ensures) | else-is_none w ↦ made_input _ c.input_of.ensures c.requires.1.in_use (c.is_none.ensures ∙ ap not w.if-is_none.false) w.made-is ] in
+    let second_made : Made (tree_in c.args.nodes.now c.in-And.b) c.if-is_none.made c.if-is_none-2.made = let first = first_made in let take = law.take_second c.requires.1 _ _ and_size first in elim c.if-is_none-2.branch [ then-is_none-2 w ↦ rw w.made-is (made_built _ c.input_of-in-And.ensures take.2 take.1 (c.is_none-in-And.ensures ∙ ap not w.if-is_none-2.true) w.take_line-then-is_none-2.ensures w.count-made-then-is_none-2.ensures) | else-is_none-2 w ↦ made_input _ c.input_of-in-And.ensures (made_use first c.requires.1.in_use) (c.is_none-in-And.ensures ∙ ap not w.if-is_none-2.false) w.made-is ] in
     let is = and_size in
     let first = first_made in
     let second = second_made in
@@ -139,8 +140,8 @@ unfolding size
 returns-after-marked t c =
     let as_and : Binary (AND c.in-And.marked) c.args.nodes.now c.args.i c.in-And.a c.in-And.b = is_and c.requires.0.valid (sym c.node_at-node.ensures ∙ c.in-And.is) in
     let and_size : size (tree_in c.args.nodes.now c.args.i) ≡ 1 + size (tree_in c.args.nodes.now c.in-And.a) + size (tree_in c.args.nodes.now c.in-And.b) = ap size as_and.is in
-    let first_made : Made (tree_in c.args.nodes.now c.in-And.a) c.args.state c.if-is_built.made = let take = law.take_first c.requires.1 _ _ and_size in elim c.if-is_built.branch [ then-is_built w ↦ rw w.made-is (made_built take.2 take.1 (sym c.is_built.ensures ∙ w.if-is_built.true) w.take_line.ensures w.count-made.ensures) | else-is_built w ↦ made_input c.requires.1.in_use (sym c.is_built.ensures ∙ w.if-is_built.false) w.made-is ] in
-    let second_made : Made (tree_in c.args.nodes.now c.in-And.b) c.if-is_built.made c.if-is_built-2.made = let first = first_made in let take = law.take_second c.requires.1 _ _ and_size first in elim c.if-is_built-2.branch [ then-is_built-2 w ↦ rw w.made-is (made_built take.2 take.1 (sym c.is_built-in-And.ensures ∙ w.if-is_built-2.true) w.take_line-then-is_built-2.ensures w.count-made-then-is_built-2.ensures) | else-is_built-2 w ↦ made_input (made_use first c.requires.1.in_use) (sym c.is_built-in-And.ensures ∙ w.if-is_built-2.false) w.made-is ] in
+    let first_made : Made (tree_in c.args.nodes.now c.in-And.a) c.args.state c.if-is_none.made = let take = law.take_first c.requires.1 _ _ and_size in elim c.if-is_none.branch [ then-is_none w ↦ rw w.made-is (made_built _ c.input_of.ensures take.2 take.1 (c.is_none.ensures ∙ ap not w.if-is_none.true) w.take_line.ensures w.count-made.ensures) | else-is_none w ↦ made_input _ c.input_of.ensures c.requires.1.in_use (c.is_none.ensures ∙ ap not w.if-is_none.false) w.made-is ] in
+    let second_made : Made (tree_in c.args.nodes.now c.in-And.b) c.if-is_none.made c.if-is_none-2.made = let first = first_made in let take = law.take_second c.requires.1 _ _ and_size first in elim c.if-is_none-2.branch [ then-is_none-2 w ↦ rw w.made-is (made_built _ c.input_of-in-And.ensures take.2 take.1 (c.is_none-in-And.ensures ∙ ap not w.if-is_none-2.true) w.take_line-then-is_none-2.ensures w.count-made-then-is_none-2.ensures) | else-is_none-2 w ↦ made_input _ c.input_of-in-And.ensures (made_use first c.requires.1.in_use) (c.is_none-in-And.ensures ∙ ap not w.if-is_none-2.false) w.made-is ] in
     let is = and_size in
     let first = first_made in
     let second = second_made in

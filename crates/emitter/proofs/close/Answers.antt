@@ -1,21 +1,15 @@
+use Rattle.std.proofs.Common.{refl, sym, arith}
 use Rattle.emitter.specs.Emitting.{closed}
-use Rattle.scanner.proofs.PlaceLaws.{byte_inside}
-use borrow.Author.Tests.{ne_eqb}
-use native.Mathlib.Omega.{arith}
-use mathlib.Core.Path.{refl}
+use Rattle.emitter.proofs.FollowLaws.{byte_follows}
 use Rattle.emitter.proofs.close.Goals as goal
 
-pub returns-in_default : goal.returns-in_default
+pub returns-then-not-follows : goal.returns-then-not-follows
 unfolding closed
-returns-in_default c = rw c.in_default.is refl
+returns-then-not-follows c = rw (← c.follows.ensures, c.if-not-follows.true) refl
 
 pub overflow_add-result : goal.overflow_add-result
-overflow_add-result c = let h = byte_inside c.args.text.now.now c.in-End.e (omega (arith, c.byte_at.ensures, c.if-byte_at-eq41.true)) in omega (arith, h, c.requires)
-
-pub returns-then-byte_at-eq41 : goal.returns-then-byte_at-eq41
-unfolding closed
-returns-then-byte_at-eq41 c = rw (c.in-End.is, ← c.byte_at.ensures, c.if-byte_at-eq41.true) refl
+overflow_add-result c = let f = byte_follows _ _ _ (omega arith) (sym c.if-not-follows.ensures) in omega (arith, f.inside)
 
 pub returns : goal.returns
 unfolding closed
-returns c = rw (c.in-End.is, ← c.byte_at.ensures, ne_eqb _ _ c.if-byte_at-eq41.false) refl
+returns c = rw (← c.follows.ensures, c.if-not-follows.false) refl

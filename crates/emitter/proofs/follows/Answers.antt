@@ -1,11 +1,13 @@
+use mathlib.Core.Path.{ap, ◌∙◌}
+use lib.Dec.{eqb}
+use Prim.Native.Nat.{ℕ}
+use Rattle.std.specs.Prelude.{Option, unwrap_or}
+use Rattle.std.proofs.lemmas.Option.{unwrap_or-slice_get}
 use Rattle.emitter.specs.Emitting.{follows_by}
-use mathlib.Core.Path.{refl}
 use Rattle.emitter.proofs.follows.Goals as goal
 
-pub returns-in-End : goal.returns-in-End
+pub returns : goal.returns
 unfolding follows_by
-returns-in-End c = rw (c.in-End.is, ← c.byte_at.ensures) refl
-
-pub returns-in-Bad : goal.returns-in-Bad
-unfolding follows_by
-returns-in-Bad c = rw c.in-Bad.is refl
+returns c =
+    ap (λ (x : ℕ). eqb x c.args.b)
+    (c.unwrap_or.ensures ∙ ap (λ (o : Option ℕ). unwrap_or o 0) c.byte_at.ensures ∙ unwrap_or-slice_get c.args.text.now.now c.args.so.end 0)

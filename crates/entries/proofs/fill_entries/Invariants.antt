@@ -1,5 +1,4 @@
-use Prim.Native.Nat.{◌*◌, ◌-◌, ◌/◌}
-use lib.ListN.{length}
+use Prim.Native.Nat.{◌*◌}
 use Rattle.wire.proofs.FillLaws.{Filled}
 use Rattle.node.specs.Nodes.{nodes_in}
 use Rattle.entries.specs.CountList.{node_numbers}
@@ -7,6 +6,3 @@ use Rattle.entries.proofs.fill_entries.Given as goal
 
 abbrev pub invariant-loop-i : goal.invariant-loop-i
 invariant-loop-i l = Filled (node_numbers (nodes_in l.nodes)) l.initial.counts l.counts (8 * l.i)
-
-abbrev pub decreases-loop-i : goal.decreases-loop-i
-decreases-loop-i l = length l.nodes / 6 - l.i

@@ -7,29 +7,21 @@ use Rattle.list.specs.Printing.{printed}
 use Rattle.line.proofs.PutLaws.{put_then, fits_first, fits_second}
 use Rattle.list.proofs.put_listing.Goals as goal
 
-pub put_head-after_head-requires : goal.put_head-after_head-requires
+pub put_head-requires : goal.put_head-requires
 unfolding printed
-put_head-after_head-requires c =
-    let fits : TextFits (first_line c.in-Written.head ++ gate_lines (gates_in (body_in c.args.area.now c.in-Written.head.gates))) 0 c.args.out.now = rw c.in-Written.is at c.requires.fits in
-    fits_first (gate_lines (gates_in (body_in c.args.area.now c.in-Written.head.gates))) fits
+put_head-requires c =
+    let fits : TextFits (first_line c.in-Ok.head ++ gate_lines (gates_in (body_in c.args.area.now c.in-Ok.head.gates))) c.args.writer.now = rw c.in-Ok.is at c.requires.fits in
+    fits_first (gate_lines (gates_in (body_in c.args.area.now c.in-Ok.head.gates))) fits
 
 pub body_in-requires : goal.body_in-requires
-body_in-requires c = c.requires.there _ c.in-Written.is
+body_in-requires c = c.requires.there _ c.in-Ok.is
 
 pub put_gate_lines-requires : goal.put_gate_lines-requires
 unfolding printed
 put_gate_lines-requires c =
-    let fits : TextFits (first_line c.in-Written.head ++ gate_lines (gates_in (body_in c.args.area.now c.in-Written.head.gates))) 0 c.args.out.now = rw c.in-Written.is at c.requires.fits in
-    rw c.body_in.ensures (fits_second fits c.put_head-after_head.ensures)
+    let fits : TextFits (first_line c.in-Ok.head ++ gate_lines (gates_in (body_in c.args.area.now c.in-Ok.head.gates))) c.args.writer.now = rw c.in-Ok.is at c.requires.fits in
+    rw c.body_in.ensures (fits_second fits c.put_head.ensures)
 
-pub put_refusal-requires : goal.put_refusal-requires
+pub returns-in-Ok : goal.returns-in-Ok
 unfolding printed
-put_refusal-requires c = rw c.in-Refused.is at c.requires.fits
-
-pub returns-in-Written : goal.returns-in-Written
-unfolding printed
-returns-in-Written c = rw c.in-Written.is (put_then c.put_head-after_head.ensures (rw c.body_in.ensures at c.put_gate_lines.ensures))
-
-pub returns-in-Refused : goal.returns-in-Refused
-unfolding printed
-returns-in-Refused c = rw c.in-Refused.is c.put_refusal.ensures
+returns-in-Ok c = rw c.in-Ok.is (put_then c.put_head.ensures (rw c.body_in.ensures at c.put_gate_lines.ensures))

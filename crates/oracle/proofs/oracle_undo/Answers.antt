@@ -7,10 +7,10 @@ use Rattle.abi.specs.Steps.{file_bytes}
 use Rattle.oracle.proofs.ExportLaws.{answer_shown, bytes_written, undone_few}
 use Rattle.oracle.proofs.oracle_undo.Goals as goal
 
-pub undo_answer-requires : goal.undo_answer-requires
-undo_answer-requires c = undone_few _ _ _ c.undo.ensures.result_value
+pub file_answer-requires : goal.file_answer-requires
+file_answer-requires c = undone_few _ _ _ c.undo.ensures.result_value
 
 pub returns : goal.returns
 returns c =
     let x = undo_file c.args.file.now c.args.choices.now (length c.args.area.now) in
-    record { value = c.undo_answer.ensures ∙ answer_shown exported head_of file_bytes x c.undo.ensures.result_value ∙ bytes_written x; area_after = c.undo.ensures.area_after }
+    record { value = c.file_answer.ensures ∙ answer_shown exported head_of file_bytes x c.undo.ensures.result_value ∙ bytes_written x; area_after = c.undo.ensures.area_after }

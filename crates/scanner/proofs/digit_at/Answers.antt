@@ -1,13 +1,22 @@
-use Rattle.scanner.proofs.DigitLaws.{digit_low, digit_high, digit_there}
-use native.Mathlib.Omega.{arith}
-use mathlib.Core.Path.{refl}
+use Rattle.std.proofs.Common.{arith, refl}
+use Rattle.std.proofs.lemmas.Bool.Decides.{nat_tests}
+use Rattle.std.proofs.lemmas.Grind.{common_steps}
+use Rattle.scanner.specs.Scanning.{digit_at}
+use Rattle.scanner.proofs.PlaceLaws.{byte_some, byte_none}
 use Rattle.scanner.proofs.digit_at.Goals as goal
 
-pub returns-then-b-lt48 : goal.returns-then-b-lt48
-returns-then-b-lt48 c = digit_low c.args.text.now.now c.args.at (omega arith) refl
+pub returns-in-Some-48-to-57 : goal.returns-in-Some-48-to-57
+unfolding digit_at
+returns-in-Some-48-to-57 c = let b = byte_some c.args.text.now.now c.args.at c.byte_at.ensures c.in-Some-48-to-57.is in grind (arith, common_steps, nat_tests)
 
-pub returns-then-b-gt57 : goal.returns-then-b-gt57
-returns-then-b-gt57 c = digit_high c.args.text.now.now c.args.at (omega arith) refl
+pub returns-in_default : goal.returns-in_default
+unfolding digit_at
+returns-in_default c = let b = byte_some c.args.text.now.now c.args.at c.byte_at.ensures c.in_default.is in grind (arith, common_steps, nat_tests)
 
-pub returns : goal.returns
-returns c = digit_there c.args.text.now.now c.args.at (omega arith) (omega arith) (omega arith)
+pub returns-in_default-2 : goal.returns-in_default-2
+unfolding digit_at
+returns-in_default-2 c = let b = byte_some c.args.text.now.now c.args.at c.byte_at.ensures c.in_default.is in grind (arith, common_steps, nat_tests)
+
+pub returns-in_default-3 : goal.returns-in_default-3
+unfolding digit_at
+returns-in_default-3 c = let b = byte_none c.args.text.now.now c.args.at c.byte_at.ensures c.in_default.is in rw b refl

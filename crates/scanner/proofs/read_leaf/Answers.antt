@@ -1,18 +1,32 @@
-use Rattle.scanner.proofs.LeafLaws.{leaf_bad, leaf_constant, letter_inside, leaf_number}
-use native.Mathlib.Omega.{arith}
+use Rattle.std.proofs.Common.{arith}
+use Rattle.std.proofs.lemmas.Grind.{common_steps}
+use Rattle.scanner.proofs.PlaceLaws.{byte_some, byte_none}
+use Rattle.scanner.proofs.LeafLaws.{leaf_bad, leaf_zero, leaf_one, leaf_number}
+use Rattle.scanner.proofs.read_leaf.Goals.{then-b-eq48, else-b-eq48}
 use Rattle.scanner.proofs.read_leaf.Goals as goal
 
-pub number-requires : goal.number-requires
-number-requires c = let h = letter_inside c.args.inputs c.args.text.now.now c.args.at c.args.made (omega arith) in omega (arith, h)
+pub returns-in-Some-eq120 : goal.returns-in-Some-eq120
+returns-in-Some-eq120 c = let b = byte_some c.args.text.now.now c.args.at c.byte_at.ensures c.in-Some-eq120.is in
+    leaf_number c.args.inputs c.args.text.now.now c.args.at c.args.made (omega arith) _ c.number.ensures
 
-pub returns-then-b-eq120 : goal.returns-then-b-eq120
-returns-then-b-eq120 c = leaf_number c.args.inputs c.args.text.now.now c.args.at c.args.made (omega arith) _ c.number.ensures
+pub returns-after-b-eq48 : goal.returns-after-b-eq48
+returns-after-b-eq48 c =
+    let b = byte_some c.args.text.now.now c.args.at c.byte_at.ensures c.in-Some-48-to-49.is in
+    elim c.if-b-eq48.branch [
+      | then-b-eq48 w ↦ rw w.result-is (leaf_zero c.args.inputs c.args.text.now.now c.args.at c.args.made (omega arith))
+      | else-b-eq48 w ↦ rw w.result-is (leaf_one c.args.inputs c.args.text.now.now c.args.at c.args.made (omega arith))
+    ]
 
-pub returns-then-b-lt48 : goal.returns-then-b-lt48
-returns-then-b-lt48 c = leaf_bad c.args.inputs c.args.text.now.now c.args.at c.args.made (omega arith) (omega arith) (omega arith) (omega arith)
+pub returns-in_default : goal.returns-in_default
+returns-in_default c =
+    let b = byte_some c.args.text.now.now c.args.at c.byte_at.ensures c.in_default.is in
+    leaf_bad c.args.inputs c.args.text.now.now c.args.at c.args.made (omega arith) (grind (arith, common_steps)) (grind (arith, common_steps)) (grind (arith, common_steps))
 
-pub returns-then-b-gt49 : goal.returns-then-b-gt49
-returns-then-b-gt49 c = leaf_bad c.args.inputs c.args.text.now.now c.args.at c.args.made (omega arith) (omega arith) (omega arith) (omega arith)
+pub returns-in_default-2 : goal.returns-in_default-2
+returns-in_default-2 c =
+    let b = byte_some c.args.text.now.now c.args.at c.byte_at.ensures c.in_default.is in
+    leaf_bad c.args.inputs c.args.text.now.now c.args.at c.args.made (omega arith) (grind (arith, common_steps)) (grind (arith, common_steps)) (grind (arith, common_steps))
 
-pub returns : goal.returns
-returns c = leaf_constant c.args.inputs c.args.text.now.now c.args.at c.args.made _ c.byte_at-b.ensures (omega arith) (omega arith)
+pub returns-in_default-3 : goal.returns-in_default-3
+returns-in_default-3 c = let b = byte_none c.args.text.now.now c.args.at c.byte_at.ensures c.in_default.is in
+    leaf_bad c.args.inputs c.args.text.now.now c.args.at c.args.made (omega arith) (omega arith) (omega arith) (omega arith)

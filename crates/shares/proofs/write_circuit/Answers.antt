@@ -15,4 +15,4 @@ pub write_shares-requires : goal.write_shares-requires
 write_shares-requires c = room_same c.requires.1 c.write_head.auto.area
 
 pub returns : goal.returns
-returns c = c.write_shares.ensures.area_to ∙ ap (λ (l : List ℕ). put_gates l 0 (circuit_gates c.args.head.inputs (trees_in c.args.nodes.now c.args.outputs.now))) c.write_head.ensures
+returns c = c.write_shares.ensures ∙ ap (λ (l : List ℕ). put_gates l 0 (circuit_gates c.args.head.inputs (trees_in c.args.nodes.now c.args.outputs.now))) c.write_head.ensures

@@ -1,10 +1,10 @@
-use Prim.Native.Nat.{◌-◌, ◌/◌}
-use lib.ListN.{length}
+use mathlib.Core.Path.{◌≡◌}
 use Rattle.shares.proofs.ShareLoop.{Writing}
 use Rattle.shares.proofs.write_shares.Given as goal
 
 abbrev pub invariant-loop-k : goal.invariant-loop-k
-invariant-loop-k l = Writing l.nodes l.outputs l.inputs l.initial.area l.area l.gates l.k
-
-abbrev pub decreases-loop-k : goal.decreases-loop-k
-decreases-loop-k l = length l.outputs / 2 - l.k
+invariant-loop-k l =
+    record {
+      writing : Writing l.nodes l.outputs l.inputs l.initial.writer.area.now l.writer l.k;
+      same_area : l.writer.area.ghost_name ≡ l.initial.writer.area.ghost_name;
+    }

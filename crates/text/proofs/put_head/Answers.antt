@@ -1,5 +1,5 @@
-use Prim.Native.Nat.{ℕ}
 use mathlib.Core.List.{List, [], ◌∷◌, ◌++◌, flat_map}
+use Prim.Native.Nat.{ℕ}
 use Rattle.wire.specs.Ascii.{ascii}
 use Rattle.circuit.specs.declared.reader.CircuitHead.{CircuitHead}
 use Rattle.line.specs.Lines.{field, line}
@@ -14,18 +14,18 @@ kinds h = flat_map field (h.inputs ∷ h.outputs ∷ h.work ∷ [])
 abbrev gates : CircuitHead → List ℕ
 gates h = line (ascii " gates") (h.gates ∷ [])
 
-pub put_word-after_word-requires : goal.put_word-after_word-requires
+pub put_word-requires : goal.put_word-requires
 unfolding first_line
-put_word-after_word-requires c = fits_first (kinds c.args.head ++ gates c.args.head) c.requires
+put_word-requires c = fits_first (kinds c.args.head ++ gates c.args.head) c.requires
 
-pub put_numbers-after_kinds-requires : goal.put_numbers-after_kinds-requires
+pub put_numbers-requires : goal.put_numbers-requires
 unfolding first_line
-put_numbers-after_kinds-requires c = fits_first (gates c.args.head) (fits_second c.requires c.put_word-after_word.ensures)
+put_numbers-requires c = fits_first (gates c.args.head) (fits_second c.requires c.put_word.ensures)
 
 pub put_line-requires : goal.put_line-requires
 unfolding first_line
-put_line-requires c = fits_second (fits_second c.requires c.put_word-after_word.ensures) c.put_numbers-after_kinds.ensures
+put_line-requires c = fits_second (fits_second c.requires c.put_word.ensures) c.put_numbers.ensures
 
 pub returns : goal.returns
 unfolding first_line
-returns c = put_then c.put_word-after_word.ensures (put_then c.put_numbers-after_kinds.ensures c.put_line.ensures)
+returns c = put_then c.put_word.ensures (put_then c.put_numbers.ensures c.put_line.ensures)

@@ -1,12 +1,17 @@
 use Prim.Native.Nat.{ℕ}
-use mathlib.Core.Path.{ap, ◌∙◌}
+use mathlib.Core.Path.{◌≡◌, ap, sym, ◌∙◌}
+use mathlib.Core.Bool.{true, false}
 use mathlib.Core.List.{List}
 use native.Mathlib.Omega.{arith}
 use lib.ListN.{length}
+use lib.Dec.{leb}
 use Rattle.wire.specs.Bytes.{at16}
+use Rattle.wire.specs.Limits.{most_work}
 use Rattle.contents.specs.Arity.{arity_fits}
+use Rattle.contents.specs.Contents.{body_of}
 use Rattle.contents.proofs.ContentsLaws.{body_there}
-use Rattle.circuit.proofs.ReadingLaws.{head_long, ranges_tests}
+use Rattle.circuit.specs.Reading.{ranges_fit}
+use Rattle.circuit.proofs.ReadingLaws.{head_long}
 use Rattle.circuit.proofs.reader.ranges_fit.Goals as goal
 
 pub body-head-requires : goal.body-head-requires
@@ -18,10 +23,14 @@ arity_fits-requires c = omega (arith, ap length c.body-head.ensures, head_long _
 pub get16-requires : goal.get16-requires
 get16-requires c = omega (arith, ap length c.body-head.ensures, head_long _ c.requires.0, c.requires.1)
 
-pub returns : goal.returns
-returns c =
-    let is = c.body-head.ensures in
-    ranges_tests c.args.file.now
-    (c.arity_fits.ensures ∙ ap arity_fits is)
-    (c.get16.ensures ∙ ap (λ (b : List ℕ). at16 b 4) is)
-    c.both.ensures
+pub returns-then-arity_fits : goal.returns-then-arity_fits
+unfolding ranges_fit
+returns-then-arity_fits c =
+    let counts : arity_fits (body_of c.args.file.now 0) ≡ true = ap arity_fits (sym c.body-head.ensures) ∙ sym c.arity_fits.ensures ∙ c.if-arity_fits.true in
+    simp counts (ap (λ (w : ℕ). leb w most_work) (c.get16.ensures ∙ ap (λ (b : List ℕ). at16 b 4) c.body-head.ensures))
+
+pub returns-else-arity_fits : goal.returns-else-arity_fits
+unfolding ranges_fit
+returns-else-arity_fits c =
+    let counts : arity_fits (body_of c.args.file.now 0) ≡ false = ap arity_fits (sym c.body-head.ensures) ∙ sym c.arity_fits.ensures ∙ c.if-arity_fits.false in
+    c.if-arity_fits.false ∙ simp counts

@@ -1,4 +1,4 @@
-use Prim.Native.Nat.{◌-◌, ◌/◌}
+use Prim.Native.Nat.{◌/◌}
 use lib.ListN.{length}
 use Rattle.refusal.proofs.CheckLaws.{Passed}
 use Rattle.gate_bytes.specs.GateBytes.{gate_fits}
@@ -6,6 +6,3 @@ use Rattle.circuit.proofs.reader.read_gates.Given as goal
 
 abbrev pub invariant-loop-i : goal.invariant-loop-i
 invariant-loop-i l = Passed (gate_fits l.lines l.gates) (length l.gates / 8) l.i
-
-abbrev pub decreases-loop-i : goal.decreases-loop-i
-decreases-loop-i l = length l.gates / 8 - l.i

@@ -1,7 +1,5 @@
-use mathlib.Core.Path.{refl, ◌∙◌}
-use Rattle.gate_bytes.specs.GateBytes.{gate_at}
+use Rattle.gate_bytes.proofs.GateLaws.{gate_read_at}
 use Rattle.gate_bytes.proofs.reader.gate_at.Goals as goal
 
 pub returns : goal.returns
-unfolding gate_at
-returns c = c.gate_of.ensures ∙ rw (c.get16.ensures, c.get16-2.ensures, c.get16-3.ensures) refl
+returns c = gate_read_at _ _ c.at.ensures c.gate.ensures

@@ -1,14 +1,6 @@
-use Rattle.gate_bytes.specs.GateBytes.{gate_bytes}
+use mathlib.Core.Path.{ap, ◌∙◌}
+use lib.Seq.{sets}
 use Rattle.gate_bytes.proofs.writer.put_gate.Goals as goal
 
-pub returns-in-Not : goal.returns-in-Not
-unfolding gate_bytes
-returns-in-Not c = rw c.in-Not.is c.put_fields.ensures
-
-pub returns-in-Cnot : goal.returns-in-Cnot
-unfolding gate_bytes
-returns-in-Cnot c = rw c.in-Cnot.is c.put_fields-in-Cnot.ensures
-
-pub returns-in-Toffoli : goal.returns-in-Toffoli
-unfolding gate_bytes
-returns-in-Toffoli c = rw c.in-Toffoli.is c.put_fields-in-Toffoli.ensures
+pub returns : goal.returns
+returns c = c.put.ensures ∙ ap (sets c.args.area.now c.args.at) c.from.ensures

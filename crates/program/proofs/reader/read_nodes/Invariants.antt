@@ -1,4 +1,4 @@
-use Prim.Native.Nat.{◌-◌, ◌/◌}
+use Prim.Native.Nat.{◌/◌}
 use lib.ListN.{length}
 use Rattle.refusal.proofs.CheckLaws.{Passed}
 use Rattle.node.specs.Nodes.{node_fits}
@@ -6,6 +6,3 @@ use Rattle.program.proofs.reader.read_nodes.Given as goal
 
 abbrev pub invariant-loop-i : goal.invariant-loop-i
 invariant-loop-i l = Passed (node_fits l.inputs l.nodes) (length l.nodes / 6) l.i
-
-abbrev pub decreases-loop-i : goal.decreases-loop-i
-decreases-loop-i l = length l.nodes / 6 - l.i

@@ -1,4 +1,4 @@
-use Prim.Native.Nat.{◌-◌, ◌/◌}
+use Prim.Native.Nat.{◌/◌}
 use lib.ListN.{length}
 use Rattle.refusal.proofs.CheckLaws.{Passed}
 use Rattle.program.specs.Reading.{output_fits}
@@ -6,6 +6,3 @@ use Rattle.program.proofs.reader.read_outputs.Given as goal
 
 abbrev pub invariant-loop-k : goal.invariant-loop-k
 invariant-loop-k l = Passed (output_fits l.nodes l.outputs) (length l.outputs / 2) l.k
-
-abbrev pub decreases-loop-k : goal.decreases-loop-k
-decreases-loop-k l = length l.outputs / 2 - l.k

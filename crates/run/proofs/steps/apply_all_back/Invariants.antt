@@ -1,12 +1,8 @@
-use Prim.Native.Nat.{◌/◌, ◌≤◌}
 use Rattle.circuit.specs.Circuits.{gates_in}
 use mathlib.Core.List.{reverse}
-use lib.ListN.{length, take}
+use lib.ListN.{take}
 use Rattle.run.proofs.RunLaws.{Moved}
 use Rattle.run.proofs.steps.apply_all_back.Given as goal
 
 abbrev pub invariant-loop-i : goal.invariant-loop-i
-invariant-loop-i l = (l.i ≤ length l.gates / 8) × Moved l.gates (reverse (gates_in l.gates)) (reverse (take l.i (gates_in l.gates))) l.initial.lines l.lines
-
-abbrev pub decreases-loop-i : goal.decreases-loop-i
-decreases-loop-i l = l.i
+invariant-loop-i l = Moved l.gates (reverse (gates_in l.gates)) (reverse (take l.i (gates_in l.gates))) l.initial.lines l.lines

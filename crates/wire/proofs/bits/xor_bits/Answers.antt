@@ -1,7 +1,5 @@
-use mathlib.Core.Path.{refl}
-use Rattle.wire.specs.Bits.{xor_bit}
+use Rattle.wire.proofs.BitLaws.{xor_bit_is}
 use Rattle.wire.proofs.bits.xor_bits.Goals as goal
 
 pub returns : goal.returns
-unfolding xor_bit
-returns c = refl
+returns c = xor_bit_is _ _ c.requires.0 c.requires.1
