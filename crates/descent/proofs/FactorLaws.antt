@@ -7,11 +7,10 @@ use mathlib.Core.Bool.{Bool, true, false, cond}
 use mathlib.Core.List.{List, [], ◌∷◌}
 use lib.ListN.{length, get_or}
 use borrow.Author.Tests.{ne_eqb}
-use Rattle.std.specs.Prelude.{Result, Ok, Err}
+use Rattle.std.specs.Prelude.{Result, Ok, Err, IfOk}
 use Rattle.refusal.specs.declared.causes.Refusal.{Refusal}
 use Rattle.refusal.specs.declared.causes.Refusal.TheVariants as cause
 use Rattle.wire.specs.Limits.{most_text, most_nodes, most_open}
-use Rattle.node.specs.Kinds.{kind_number}
 use Rattle.node.specs.declared.nodes.Node.TheVariants.{Not}
 use Rattle.grammar.specs.Characters.{caret, ampersand, exclamation, opening, closing}
 use Rattle.grammar.specs.Grammar.{Sum, lone, plus, negation, brackets}
@@ -25,7 +24,7 @@ use Rattle.scanner.specs.declared.Leaf.{Leaf}
 use Rattle.scanner.specs.Scanning.{Goes, LeafRead}
 use Rattle.scanner.proofs.PlaceLaws.{byte_inside, goes_byte, opens_byte, stops_here, goes_then, goes_refuses}
 use Rattle.emitter.specs.declared.Part.{Part}
-use Rattle.emitter.specs.Emitting.{put_nodes, Storable, LeafStored, Joinable, Negated, follows_by, closed}
+use Rattle.emitter.specs.Emitting.{put_nodes, Storable, HandsOn, LeafStored, Joinable, Negated, follows_by, closed}
 use Rattle.emitter.proofs.FollowLaws.{byte_follows, byte_differs}
 use Rattle.emitter.proofs.WriteLaws.{put_as, put_not, put_then}
 use Rattle.descent.specs.Readers.{FactorRead, sum_read, SumEnd, SumRead}
@@ -46,6 +45,10 @@ unfolding sum_read read_byte read_behind read_closing sum_with outside_product
 sum_close (lone p) c = refl
 sum_close (plus t p) c = refl
 
+closed_refused : (text : List ℕ) (why : Refusal) → closed text (Err why) ≡ Err why
+unfolding closed
+closed_refused text why = refl
+
 -- a leaf's node can be stored
 pub leaf_storable : (n : ℕ) (text : List ℕ) (at made room : ℕ) (leaf : Leaf) → LeafRead n text at made (Ok leaf) → length text ≤ most_text → made ≤ at → 6 * most_nodes ≤ room → Storable made leaf.field 0 room
 unfolding LeafRead
@@ -58,6 +61,17 @@ unfolding FactorRead
 not_joinable n text at left made room old new under g short nodes fits =
     record { some = omega arith; more = omega (arith, g.further.some); index = omega (arith, g.further.inside, g.further.nodes); fits = fits }
 
+-- the same of what the readers answered
+pub leaf_stores : (n : ℕ) (text : List ℕ) (at made room : ℕ) (read : Result Leaf Refusal) → LeafRead n text at made read → length text ≤ most_text → made ≤ at → 6 * most_nodes ≤ room
+    → IfOk read (λ leaf. Storable made leaf.field 0 room)
+leaf_stores n text at made room (Ok leaf) g short nodes fits = leaf_storable n text at made room leaf g short nodes fits
+leaf_stores n text at made room (Err why) g short nodes fits = tt
+
+pub not_joins : (n : ℕ) (text : List ℕ) (at left made room : ℕ) (old new : List ℕ) (read : Result Part Refusal) → FactorRead n text at left made old new read → length text ≤ most_text → made < at → 6 * most_nodes ≤ room
+    → IfOk read (λ under. Joinable 1 under.made room)
+not_joins n text at left made room old new (Ok under) g short nodes fits = not_joinable n text at left made room old new under g short nodes fits
+not_joins n text at left made room old new (Err why) g short nodes fits = tt
+
 module _ (n : ℕ) (text : List ℕ) (at left made : ℕ) (old new : List ℕ) where
   -- a leaf
   module _ (h₁ : get_or text at 0 ≢ exclamation) (h₂ : get_or text at 0 ≢ opening) where
@@ -67,7 +81,7 @@ module _ (n : ℕ) (text : List ℕ) (at left made : ℕ) (old new : List ℕ) w
         rw w.0 (record {
           tree = g.tree;
           count = omega (arith, g.one);
-          written = w.1 ∙ put_as old made (factor_nodes g.tree made) (kind_number leaf.kind) leaf.field 0 (g.stored made);
+          written = w.1 ∙ put_as old made (factor_nodes g.tree made) leaf.kind leaf.field 0 (g.stored made);
           further = omega (arith, g.later, g.inside);
           goes = λ c o m. g.goes c (omega arith);
         })
@@ -75,6 +89,11 @@ module _ (n : ℕ) (text : List ℕ) (at left made : ℕ) (old new : List ℕ) w
     pub factor_no_leaf : (why : Refusal) → LeafRead n text at made (Err why) → FactorRead n text at left made old new (Err why)
     unfolding LeafRead FactorRead
     factor_no_leaf why g = λ c o m. g h₁ h₂ c (omega arith) m
+
+    pub factor_of_leaf : (read : Result Leaf Refusal) (r : Result Part Refusal) → made ≤ at → LeafRead n text at made read → HandsOn (λ leaf part. LeafStored leaf made old new part) read r → FactorRead n text at left made old new r
+    factor_of_leaf (Ok leaf) (Ok part) p g w = factor_leaf leaf part p g w
+    factor_of_leaf (Ok leaf) (Err why) p g w = absurd w
+    factor_of_leaf (Err why) r p g w = rw w (factor_no_leaf why g)
 
   -- the byte at the place leads on from where a factor is to come
   module _ (b : ℕ) (e : get_or text at 0 ≡ b) (some : 1 ≤ b) where
@@ -113,6 +132,12 @@ module _ (n : ℕ) (text : List ℕ) (at left made : ℕ) (old new : List ℕ) w
     unfolding FactorRead open_factor made_factor
     factor_not_refused more why between g = λ c o m. goes_refuses n text (not_goes more c o) (g (negated c) (omega arith) m)
 
+    pub factor_of_not : left ≢ 0 → (between : List ℕ) (read r : Result Part Refusal) → FactorRead n text (at + 1) (left - 1) made old between read
+        → HandsOn (λ under part. Negated under between new part) read r → FactorRead n text at left made old new r
+    factor_of_not more between (Ok under) (Ok part) g w = factor_not more between under part g w
+    factor_of_not more between (Ok under) (Err why) g w = absurd w
+    factor_of_not more between (Err why) r g w = rw w (factor_not_refused more why between g)
+
   -- a bracket, and the sum in it
   module _ (e : get_or text at 0 ≡ opening) where
     pub factor_deep_bracket : left ≡ 0 → FactorRead n text at left made old new (Err (cause.Depth at))
@@ -132,7 +157,7 @@ module _ (n : ℕ) (text : List ℕ) (at left made : ℕ) (old new : List ℕ) w
         unfolding open_sum made_sum
         inner_goes c o w = goes_then n text (bracket_goes c o) (g.so.goes (in_brackets c) (omega arith) w)
 
-        by_closing : (t : Bool) → follows_by text inner closing ≡ t → FactorRead n text at left made old new (cond t (Ok (record { end = inner.end + 1; made = inner.made })) (Err (cause.Text inner.end)))
+        by_closing : (t : Bool) → follows_by text (Ok inner) closing ≡ t → FactorRead n text at left made old new (cond t (Ok (record { end = inner.end + 1; made = inner.made })) (Err (cause.Text inner.end)))
         unfolding FactorRead factor_count factor_nodes finish_sum
         by_closing true q =
             let there = byte_follows text inner closing (omega arith) q in
@@ -151,10 +176,14 @@ module _ (n : ℕ) (text : List ℕ) (at left made : ℕ) (old new : List ℕ) w
             (sum_stop g.so.tree (in_brackets c) (get_or text inner.end 0) g.so.no_and g.no_caret (byte_differs text inner closing (omega arith) q))
             (sum_finish (length text) g.so.tree (in_brackets c)))
 
-      pub factor_bracket : (inner : Part) {r : Result Part Refusal} → SumRead n text (at + 1) (left - 1) made old new (Ok inner) → r ≡ closed text inner → FactorRead n text at left made old new r
+      pub factor_bracket : (inner : Part) {r : Result Part Refusal} → SumRead n text (at + 1) (left - 1) made old new (Ok inner) → r ≡ closed text (Ok inner) → FactorRead n text at left made old new r
       unfolding SumRead closed
-      factor_bracket inner g w = rw w (by_closing inner g (follows_by text inner closing) refl)
+      factor_bracket inner g w = rw w (by_closing inner g (follows_by text (Ok inner) closing) refl)
 
       pub factor_bracket_refused : (why : Refusal) → SumRead n text (at + 1) (left - 1) made old new (Err why) → FactorRead n text at left made old new (Err why)
       unfolding SumRead FactorRead open_sum made_sum
       factor_bracket_refused why g = λ c o m. goes_refuses n text (bracket_goes c o) (g (in_brackets c) (omega arith) m)
+
+      pub factor_of_bracket : (read : Result Part Refusal) {r : Result Part Refusal} → SumRead n text (at + 1) (left - 1) made old new read → r ≡ closed text read → FactorRead n text at left made old new r
+      factor_of_bracket (Ok inner) g w = factor_bracket inner g w
+      factor_of_bracket (Err why) g w = rw (w, closed_refused text why) (factor_bracket_refused why g)

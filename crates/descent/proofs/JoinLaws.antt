@@ -1,14 +1,14 @@
 -- The answers of the readers of products and sums: what was read so far, one more of it, and the end. Assumes nothing.
 use Prim.Native.Nat.{ℕ, ◌+◌, ◌-◌, ◌<◌}
 use native.Mathlib.Omega.{arith}
-use mathlib.Core.Path.{◌≡◌, refl, sym, ap, ap₂, ◌∙◌}
+use mathlib.Core.Path.{◌≡◌, refl, sym, ap, ap₂, subst, ◌∙◌}
 use mathlib.Core.Bool.{true, false}
 use mathlib.Core.List.{List, [], ◌∷◌}
 use lib.ListN.{length}
-use Rattle.std.specs.Prelude.{Ok, Err}
+use Rattle.std.specs.Prelude.{Result, Ok, Err, IfOk}
+use Rattle.std.proofs.lemmas.Grind.{common_steps}
 use Rattle.refusal.specs.declared.causes.Refusal.{Refusal}
 use Rattle.wire.specs.Limits.{most_open}
-use Rattle.node.specs.declared.kinds.Kind.TheVariants as kind
 use Rattle.node.specs.declared.nodes.Node.TheVariants.{Xor, And}
 use Rattle.grammar.specs.Characters.{caret, ampersand}
 use Rattle.grammar.specs.Grammar.{Sum, lone, plus, single, times}
@@ -20,7 +20,7 @@ use Rattle.automaton.specs.Automaton.{product_with, outside_factor, after_factor
 use Rattle.scanner.specs.Scanning.{Goes}
 use Rattle.scanner.proofs.PlaceLaws.{goes_byte, goes_then, goes_refuses}
 use Rattle.emitter.specs.declared.Part.{Part}
-use Rattle.emitter.specs.Emitting.{put_nodes, Joinable, Joined, follows_by}
+use Rattle.emitter.specs.Emitting.{put_nodes, Joinable, HandsOn, Joined, follows_by}
 use Rattle.emitter.proofs.FollowLaws.{Follows, byte_follows, byte_differs}
 use Rattle.emitter.proofs.WriteLaws.{put_xor, put_and, put_both}
 use Rattle.descent.specs.Readers.{Readable, Further, FactorRead, ProductSo, ProductRead, sum_read, SumSo, SumRead}
@@ -56,12 +56,12 @@ module _ (n : ℕ) (text : List ℕ) (at left made : ℕ) where
 
   -- what was read so far
   module _ (old here : List ℕ) (so : Part) (g : ProductSo n text at left made old here so.end so.made) where
-    pub product_end : follows_by text so ampersand ≡ false → ProductRead n text at left made old here (Ok so)
+    pub product_end : follows_by text (Ok so) ampersand ≡ false → ProductRead n text at left made old here (Ok so)
     unfolding ProductRead
     product_end x = record { so = g; no_and = byte_differs text so ampersand (omega arith) x }
 
     -- and an & behind it
-    module _ (x : follows_by text so ampersand ≡ true) where
+    module _ (x : follows_by text (Ok so) ampersand ≡ true) where
       and_there : Follows text so ampersand
       and_there = byte_follows text so ampersand (omega arith) x
 
@@ -88,7 +88,7 @@ module _ (n : ℕ) (text : List ℕ) (at left made : ℕ) where
         unfolding FactorRead
         factor_joinable {room} p = joinable n text at made room so next g.further p f.further
 
-        module _ (new : List ℕ) (r : Part) (w : Joined kind.And so.made next between new r) where
+        module _ (new : List ℕ) (r : Part) (w : Joined 5 so.made next between new r) where
           pub product_next : ProductSo n text at left made old new r.end r.made
           unfolding FactorRead product_count product_nodes open_factor made_factor after_factor product_with outside_factor
           product_next =
@@ -111,6 +111,29 @@ module _ (n : ℕ) (text : List ℕ) (at left made : ℕ) where
           unfolding FactorRead
           product_fewer = omega (arith, ap (λ (p : Part). p.end) w.0, f.further.later, f.further.inside)
 
+      -- the same of what the reader behind it answered
+      module _ (between : List ℕ) where
+        pub factor_joins : {room : ℕ} (next : Result Part Refusal) → FactorRead n text (so.end + 1) left so.made here between next → Readable n text at made room → IfOk next (λ part. Joinable so.made part.made room)
+        factor_joins (Ok next) f p = factor_joinable between next f p
+        factor_joins (Err why) f p = tt
+
+        module _ (new : List ℕ) where
+          pub product_goes_on : (next : Result Part Refusal) (r : Part) → FactorRead n text (so.end + 1) left so.made here between next
+              → HandsOn (λ part r. Joined 5 so.made part between new r) next (Ok r) → ProductSo n text at left made old new r.end r.made
+          product_goes_on (Ok next) r f w = product_next between next f new r w
+          product_goes_on (Err why) r f w = grind (arith, common_steps)
+
+          pub product_falls : (next : Result Part Refusal) (r : Part) → FactorRead n text (so.end + 1) left so.made here between next
+              → HandsOn (λ part r. Joined 5 so.made part between new r) next (Ok r) → bytes_left text r < bytes_left text so
+          product_falls (Ok next) r f w = product_fewer between next f new r w
+          product_falls (Err why) r f w = grind (arith, common_steps)
+
+          pub product_gives_up : (next : Result Part Refusal) (why : Refusal) → FactorRead n text (so.end + 1) left so.made here between next
+              → HandsOn (λ part r. Joined 5 so.made part between new r) next (Err why) → ProductRead n text at left made old new (Err why)
+          unfolding ProductRead
+          product_gives_up (Ok next) why f w = absurd w
+          product_gives_up (Err why') why f w = subst (λ (x : Result Part Refusal). ProductRead n text at left made old new x) (sym w) (product_stops between why' f)
+
 -- sums
 sum_caret : (t : Sum) (k : AroundSum) → read_byte (sum_read t k) caret ≡ go (factor_next (first_factor (next_product t k)))
 unfolding sum_read read_byte read_behind sum_with outside_product
@@ -129,12 +152,12 @@ module _ (n : ℕ) (text : List ℕ) (at left made : ℕ) where
 
   -- what was read so far
   module _ (old here : List ℕ) (so : Part) (g : SumSo n text at left made old here so.end so.made) where
-    pub sum_end : follows_by text so caret ≡ false → SumRead n text at left made old here (Ok so)
+    pub sum_end : follows_by text (Ok so) caret ≡ false → SumRead n text at left made old here (Ok so)
     unfolding SumRead
     sum_end x = record { so = g; no_caret = byte_differs text so caret (omega arith) x }
 
     -- and a ^ behind it
-    module _ (x : follows_by text so caret ≡ true) where
+    module _ (x : follows_by text (Ok so) caret ≡ true) where
       caret_there : Follows text so caret
       caret_there = byte_follows text so caret (omega arith) x
 
@@ -161,7 +184,7 @@ module _ (n : ℕ) (text : List ℕ) (at left made : ℕ) where
         unfolding ProductRead
         product_joinable {room} p = joinable n text at made room so next g.further p f.so.further
 
-        module _ (new : List ℕ) (r : Part) (w : Joined kind.Xor so.made next between new r) where
+        module _ (new : List ℕ) (r : Part) (w : Joined 4 so.made next between new r) where
           pub sum_next : SumSo n text at left made old new r.end r.made
           unfolding ProductRead sum_count sum_nodes open_product made_product sum_read
           sum_next =
@@ -184,3 +207,26 @@ module _ (n : ℕ) (text : List ℕ) (at left made : ℕ) where
           pub sum_fewer : bytes_left text r < bytes_left text so
           unfolding ProductRead
           sum_fewer = omega (arith, ap (λ (p : Part). p.end) w.0, f.so.further.later, f.so.further.inside)
+
+      -- the same of what the reader behind it answered
+      module _ (between : List ℕ) where
+        pub product_joins : {room : ℕ} (next : Result Part Refusal) → ProductRead n text (so.end + 1) left so.made here between next → Readable n text at made room → IfOk next (λ part. Joinable so.made part.made room)
+        product_joins (Ok next) f p = product_joinable between next f p
+        product_joins (Err why) f p = tt
+
+        module _ (new : List ℕ) where
+          pub sum_goes_on : (next : Result Part Refusal) (r : Part) → ProductRead n text (so.end + 1) left so.made here between next
+              → HandsOn (λ part r. Joined 4 so.made part between new r) next (Ok r) → SumSo n text at left made old new r.end r.made
+          sum_goes_on (Ok next) r f w = sum_next between next f new r w
+          sum_goes_on (Err why) r f w = grind (arith, common_steps)
+
+          pub sum_falls : (next : Result Part Refusal) (r : Part) → ProductRead n text (so.end + 1) left so.made here between next
+              → HandsOn (λ part r. Joined 4 so.made part between new r) next (Ok r) → bytes_left text r < bytes_left text so
+          sum_falls (Ok next) r f w = sum_fewer between next f new r w
+          sum_falls (Err why) r f w = grind (arith, common_steps)
+
+          pub sum_gives_up : (next : Result Part Refusal) (why : Refusal) → ProductRead n text (so.end + 1) left so.made here between next
+              → HandsOn (λ part r. Joined 4 so.made part between new r) next (Err why) → SumRead n text at left made old new (Err why)
+          unfolding SumRead
+          sum_gives_up (Ok next) why f w = absurd w
+          sum_gives_up (Err why') why f w = subst (λ (x : Result Part Refusal). SumRead n text at left made old new x) (sym w) (sum_stops between why' f)

@@ -29,9 +29,9 @@ pub fn sum(
     ensures { SumRead inputs text.now.now at left made nodes.old nodes.new result }
 {
     let mut so = product(text, inputs, at, left, made, nodes)?;
-    while follows(text, so, b'^') {
-        let next = product(text, inputs, so.end + 1, left, so.made, nodes)?;
-        so = join(next, so.made, Kind::Xor, nodes);
+    while follows(text, Ok(so), b'^') {
+        let next = product(text, inputs, so.end + 1, left, so.made, nodes);
+        so = join(next, so.made, Kind::Xor.number(), nodes)?;
     }
     Ok(so)
 }
@@ -52,9 +52,9 @@ fn product(
     ensures { ProductRead inputs text.now.now at left made nodes.old nodes.new result }
 {
     let mut so = factor(text, inputs, at, left, made, nodes)?;
-    while follows(text, so, b'&') {
-        let next = factor(text, inputs, so.end + 1, left, so.made, nodes)?;
-        so = join(next, so.made, Kind::And, nodes);
+    while follows(text, Ok(so), b'&') {
+        let next = factor(text, inputs, so.end + 1, left, so.made, nodes);
+        so = join(next, so.made, Kind::And.number(), nodes)?;
     }
     Ok(so)
 }
@@ -77,19 +77,19 @@ fn factor(
             if left == 0 {
                 return Err(Refusal::Depth(at as u64));
             }
-            let under = factor(text, inputs, at + 1, left - 1, made, nodes)?;
-            Ok(negate(under, nodes))
+            let under = factor(text, inputs, at + 1, left - 1, made, nodes);
+            negate(under, nodes)
         }
         Some(b'(') => {
             if left == 0 {
                 return Err(Refusal::Depth(at as u64));
             }
-            let inner = sum(text, inputs, at + 1, left - 1, made, nodes)?;
+            let inner = sum(text, inputs, at + 1, left - 1, made, nodes);
             close(text, inner)
         }
         _ => {
-            let leaf = read_leaf(text, inputs, at, made)?;
-            Ok(store_leaf(leaf, made, nodes))
+            let leaf = read_leaf(text, inputs, at, made);
+            store_leaf(leaf, made, nodes)
         }
     }
 }

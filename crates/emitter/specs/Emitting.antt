@@ -1,12 +1,10 @@
 -- Nodes of a node body that is being made, and what the steps that store them ask for and leave.
-use Rattle.std.specs.Prelude.{ℕ, ◌+◌, ◌*◌, ◌-◌, ◌≤◌, ◌<◌, ◌≡◌, Bool, cond, List, get_or, eqb, Result, Ok, Err}
+use Rattle.std.specs.Prelude.{ℕ, ◌+◌, ◌*◌, ◌-◌, ◌≤◌, ◌<◌, ◌≡◌, Bool, false, cond, List, get_or, eqb, Result, Ok, Err, IsOkAnd}
 use Rattle.std.proofs.lemmas.List.Edits.{sets}
 use Rattle.refusal.specs.declared.causes.Refusal.{Refusal}
 use Rattle.refusal.specs.declared.causes.Refusal.TheVariants as cause
 use Rattle.wire.specs.Limits.{most_nodes}
 use Rattle.node.specs.declared.nodes.Node.{Node}
-use Rattle.node.specs.declared.kinds.Kind.{Kind}
-use Rattle.node.specs.Kinds.{kind_number}
 use Rattle.node.specs.NodeBytes.{node_fields, nodes_bytes}
 use Rattle.grammar.specs.Characters.{closing}
 use Rattle.scanner.specs.declared.Leaf.{Leaf}
@@ -27,9 +25,14 @@ pub record Storable (i a b room : ℕ) : Type 0 where
   pub second : b < most_nodes
   pub fits : 6 * most_nodes ≤ room
 
+-- of what was read something is made, as P says of both; a refusal is handed on, and then nothing is said of the node body, as the service throws it away
+abbrev pub HandsOn : {A B : Type 0} → (A → B → Type 0) → Result A Refusal → Result B Refusal → Type 0
+HandsOn P (Ok a) r = IsOkAnd r (P a)
+HandsOn P (Err why) r = r ≡ Err why
+
 -- the leaf's node is stored
 abbrev pub LeafStored : Leaf → ℕ → List ℕ → List ℕ → Part → Type 0
-LeafStored leaf made old new r = (r ≡ record { end = leaf.end; made = made + 1 }) × (new ≡ put_fields old made (kind_number leaf.kind) leaf.field 0)
+LeafStored leaf made old new r = (r ≡ record { end = leaf.end; made = made + 1 }) × (new ≡ put_fields old made leaf.kind leaf.field 0)
 
 -- with m nodes made, one at least, and then k, one node can be stored behind these
 pub record Joinable (m k room : ℕ) : Type 0 where
@@ -39,17 +42,19 @@ pub record Joinable (m k room : ℕ) : Type 0 where
   pub fits : 6 * most_nodes ≤ room
 
 -- a node that joins the last of the m nodes and the last one is stored
-abbrev pub Joined : Kind → ℕ → Part → List ℕ → List ℕ → Part → Type 0
-Joined kind m next old new r = (r ≡ record { end = next.end; made = next.made + 1 }) × (new ≡ put_fields old next.made (kind_number kind) (m - 1) (next.made - 1))
+abbrev pub Joined : ℕ → ℕ → Part → List ℕ → List ℕ → Part → Type 0
+Joined kind m next old new r = (r ≡ record { end = next.end; made = next.made + 1 }) × (new ≡ put_fields old next.made kind (m - 1) (next.made - 1))
 
 -- a NOT of the last node is stored
 abbrev pub Negated : Part → List ℕ → List ℕ → Part → Type 0
 Negated under old new r = (r ≡ record { end = under.end; made = under.made + 1 }) × (new ≡ put_fields old under.made 3 (under.made - 1) 0)
 
--- this byte follows what was read
-unfoldable pub follows_by : List ℕ → Part → ℕ → Bool
-follows_by text so b = eqb (get_or text so.end 0) b
+-- this byte follows what was read; behind a refusal none does
+unfoldable pub follows_by : List ℕ → Result Part Refusal → ℕ → Bool
+follows_by text (Ok so) b = eqb (get_or text so.end 0) b
+follows_by text (Err why) b = false
 
 -- what was read, and the ) behind it
-unfoldable pub closed : List ℕ → Part → Result Part Refusal
-closed text inner = cond (follows_by text inner closing) (Ok (record { end = inner.end + 1; made = inner.made })) (Err (cause.Text inner.end))
+unfoldable pub closed : List ℕ → Result Part Refusal → Result Part Refusal
+closed text (Ok inner) = cond (follows_by text (Ok inner) closing) (Ok (record { end = inner.end + 1; made = inner.made })) (Err (cause.Text inner.end))
+closed text (Err why) = Err why

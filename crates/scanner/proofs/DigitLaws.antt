@@ -12,7 +12,6 @@ use Rattle.std.specs.Prelude.{Some, None, Ok, Err}
 use Rattle.refusal.specs.declared.causes.Refusal.TheVariants as cause
 use Rattle.refusal.proofs.CheckLaws.{both_first, both_second}
 use Rattle.wire.specs.Limits.{most_open}
-use Rattle.node.specs.declared.kinds.Kind.TheVariants.{Input}
 use Rattle.node.specs.NodeBytes.{node_bytes}
 use Rattle.grammar.specs.Characters.{digit0, digit9}
 use Rattle.grammar.specs.Grammar.{variable}
@@ -74,7 +73,7 @@ letter_stop c b h = rw h refl
 module _ (n : ℕ) (text : List ℕ) (at nodes : ℕ) where
   -- an input was read
   input_end : (j e : ℕ) → j < 100 → at < e → e ≤ length text → ((c : AroundFactor) → open_factor c ≤ most_open → Goes n text (digit_next c) at (after_factor (variable j) c) e)
-      → NumberRead n text at nodes (Ok (record { kind = Input; field = j; end = e }))
+      → NumberRead n text at nodes (Ok (record { kind = 2; field = j; end = e }))
   unfolding NumberRead factor_count factor_nodes node_bytes flat_map
   input_end j e two l u g = record { tree = variable j; one = refl; stored = λ i. refl; small = two; later = l; inside = u; goes = g }
 
@@ -101,15 +100,15 @@ module _ (n : ℕ) (text : List ℕ) (at nodes : ℕ) where
     goes_first c o h = goes_byte n text (digits_read d c) first_inside (reads_first c) o h
 
     module _ (below : d < n) where
-      number_one : longer d (get_or text (at + 1) 0) ≡ false → NumberRead n text at nodes (Ok (record { kind = Input; field = d; end = at + 1 }))
+      number_one : longer d (get_or text (at + 1) 0) ≡ false → NumberRead n text at nodes (Ok (record { kind = 2; field = d; end = at + 1 }))
       number_one l =
           input_end d (at + 1) (omega (arith, first.small)) (omega arith) (omega (arith, first_inside))
           (λ c o. goes_then n text (goes_first c o below) (goes_settled n text d c (at + 1) l))
 
-      pub number_zero : d ≡ 0 → NumberRead n text at nodes (Ok (record { kind = Input; field = d; end = at + 1 }))
+      pub number_zero : d ≡ 0 → NumberRead n text at nodes (Ok (record { kind = 2; field = d; end = at + 1 }))
       number_zero z = number_one (longer_zero d (get_or text (at + 1) 0) z)
 
-      pub number_alone : None ≡ digit_at text (at + 1) → NumberRead n text at nodes (Ok (record { kind = Input; field = d; end = at + 1 }))
+      pub number_alone : None ≡ digit_at text (at + 1) → NumberRead n text at nodes (Ok (record { kind = 2; field = d; end = at + 1 }))
       number_alone h = number_one (longer_none d (get_or text (at + 1) 0) (digit_none text (at + 1) h))
 
       module _ (some : d ≢ 0) (e j : ℕ) (behind : Some e ≡ digit_at text (at + 1)) (is : j ≡ 10 * d + e) where
@@ -129,7 +128,7 @@ module _ (n : ℕ) (text : List ℕ) (at nodes : ℕ) where
         unfolding NumberRead opened input_fits made
         number_two_over h = λ c o m. goes_refuses n text (goes_first c o below) (number_byte n text nodes (digits_read j c) second_inside (reads_second c) o (le-ltb j n h) m)
 
-        pub number_two : j < n → NumberRead n text at nodes (Ok (record { kind = Input; field = j; end = at + 2 }))
+        pub number_two : j < n → NumberRead n text at nodes (Ok (record { kind = 2; field = j; end = at + 2 }))
         unfolding opened
         number_two h =
             let then : at + 1 + 1 ≡ at + 2 = omega arith in

@@ -10,9 +10,6 @@ use Rattle.std.specs.Prelude.{Result, Ok, Err}
 use Rattle.refusal.specs.declared.causes.Refusal.{Refusal}
 use Rattle.refusal.specs.declared.causes.Refusal.TheVariants as cause
 use Rattle.wire.specs.Limits.{most_open}
-use Rattle.node.specs.declared.kinds.Kind.{Kind}
-use Rattle.node.specs.declared.kinds.Kind.TheVariants.{Zero, One}
-use Rattle.node.specs.Kinds.{kind_number}
 use Rattle.node.specs.NodeBytes.{node_fields, node_bytes, nodes_bytes}
 use Rattle.grammar.specs.Characters.{exclamation, opening, letter_x, digit0, digit1}
 use Rattle.grammar.specs.Grammar.{Factor, constant0, constant1}
@@ -35,7 +32,7 @@ module _ (n : ℕ) (text : List ℕ) (at made : ℕ) where
   leaf_bad u h₁ h₂ h₃ = λ h₄ h₅ c o m. stops_here n text u (factor_stop c (get_or text at 0) h₁ h₂ h₃ h₄ h₅) refl
 
   -- the byte is a factor by itself
-  constant : (b : ℕ) (kind : Kind) (f : Factor) → get_or text at 0 ≡ b → 1 ≤ b → factor_count f ≡ 1 → ((i : ℕ) → nodes_bytes (factor_nodes f i) ≡ node_fields (kind_number kind) 0 0 0)
+  constant : (b kind : ℕ) (f : Factor) → get_or text at 0 ≡ b → 1 ≤ b → factor_count f ≡ 1 → ((i : ℕ) → nodes_bytes (factor_nodes f i) ≡ node_fields kind 0 0 0)
       → ((c : AroundFactor) → read_factor_byte c b ≡ go (after_factor f c)) → LeafRead n text at made (Ok (record { kind = kind; field = 0; end = at + 1 }))
   unfolding LeafRead read_byte after_factor
   constant b kind f e some one stored q =
@@ -50,13 +47,13 @@ module _ (n : ℕ) (text : List ℕ) (at made : ℕ) where
         goes = λ c o. goes_byte n text (after_factor f c) here (ap (read_factor_byte c) e ∙ q c) (omega (arith, open_after f c)) tt;
       }
 
-  pub leaf_zero : get_or text at 0 ≡ digit0 → LeafRead n text at made (Ok (record { kind = Zero; field = 0; end = at + 1 }))
+  pub leaf_zero : get_or text at 0 ≡ digit0 → LeafRead n text at made (Ok (record { kind = 0; field = 0; end = at + 1 }))
   unfolding factor_count factor_nodes node_bytes flat_map read_factor_byte
-  leaf_zero e = constant digit0 Zero constant0 e (omega arith) refl (λ i. refl) (λ c. refl)
+  leaf_zero e = constant digit0 0 constant0 e (omega arith) refl (λ i. refl) (λ c. refl)
 
-  pub leaf_one : get_or text at 0 ≡ digit1 → LeafRead n text at made (Ok (record { kind = One; field = 0; end = at + 1 }))
+  pub leaf_one : get_or text at 0 ≡ digit1 → LeafRead n text at made (Ok (record { kind = 1; field = 0; end = at + 1 }))
   unfolding factor_count factor_nodes node_bytes flat_map read_factor_byte
-  leaf_one e = constant digit1 One constant1 e (omega arith) refl (λ i. refl) (λ c. refl)
+  leaf_one e = constant digit1 1 constant1 e (omega arith) refl (λ i. refl) (λ c. refl)
 
   -- x, and the number behind it
   module _ (e : get_or text at 0 ≡ letter_x) where

@@ -3,7 +3,6 @@ use Rattle.std.specs.Prelude.{ℕ, ◌-◌, ◌≤◌, ◌<◌, ◌≡◌, ◌�
 use Rattle.refusal.specs.Answers.{refuse}
 use Rattle.refusal.specs.declared.causes.Refusal.{Refusal}
 use Rattle.wire.specs.Limits.{most_text, most_open}
-use Rattle.node.specs.Kinds.{kind_number}
 use Rattle.node.specs.NodeBytes.{node_fields, nodes_bytes}
 use Rattle.grammar.specs.Characters.{exclamation, opening, digit0}
 use Rattle.grammar.specs.Grammar.{Factor}
@@ -45,10 +44,10 @@ LeafRefused n text from at made why = (c : AroundFactor) → open_factor c ≤ m
 
 -- what is read behind an x
 unfoldable pub NumberRead : ℕ → List ℕ → ℕ → ℕ → Result Leaf Refusal → Type 0
-NumberRead n text at made (Ok leaf) = LeafEnd n text digit_next at (kind_number leaf.kind) leaf.field leaf.end
+NumberRead n text at made (Ok leaf) = LeafEnd n text digit_next at leaf.kind leaf.field leaf.end
 NumberRead n text at made (Err why) = LeafRefused n text digit_next at made why
 
 -- what is read where a factor is to come, if it is no ! and no (
 unfoldable pub LeafRead : ℕ → List ℕ → ℕ → ℕ → Result Leaf Refusal → Type 0
-LeafRead n text at made (Ok leaf) = LeafEnd n text factor_next at (kind_number leaf.kind) leaf.field leaf.end
+LeafRead n text at made (Ok leaf) = LeafEnd n text factor_next at leaf.kind leaf.field leaf.end
 LeafRead n text at made (Err why) = get_or text at 0 ≢ exclamation → get_or text at 0 ≢ opening → LeafRefused n text factor_next at made why

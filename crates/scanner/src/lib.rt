@@ -13,7 +13,7 @@ use refusal::causes::Refusal;
 // A leaf: the kind of its node, the node's first field, and where its text ends.
 #[derive(Clone, Copy)]
 pub struct Leaf {
-    pub kind: Kind,
+    pub kind: u8,
     pub field: usize,
     pub end: usize,
 }
@@ -46,7 +46,7 @@ fn number(text: &&[u8], inputs: usize, at: usize, made: usize) -> Result<Leaf, R
         return Err(Refusal::Node(made as u64));
     }
     let one = Leaf {
-        kind: Kind::Input,
+        kind: Kind::Input.number(),
         field: first,
         end: at + 1,
     };
@@ -75,11 +75,14 @@ pub fn read_leaf(text: &&[u8], inputs: usize, at: usize, made: usize) -> Result<
 {
     match byte_at(text, at) {
         Some(b'x') => number(text, inputs, at + 1, made),
-        Some(b @ b'0'..=b'1') => Ok(Leaf {
-            kind: if b == b'0' { Kind::Zero } else { Kind::One },
-            field: 0,
-            end: at + 1,
-        }),
+        Some(b @ b'0'..=b'1') => {
+            let kind = if b == b'0' { Kind::Zero } else { Kind::One };
+            Ok(Leaf {
+                kind: kind.number(),
+                field: 0,
+                end: at + 1,
+            })
+        }
         _ => Err(Refusal::Text(at as u64)),
     }
 }

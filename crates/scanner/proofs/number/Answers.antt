@@ -17,12 +17,14 @@ returns-then-inputs-first c =
 
 pub returns-then-first-eq0 : goal.returns-then-first-eq0
 returns-then-first-eq0 c =
-    number_zero c.args.inputs c.args.text.now.now c.args.at c.args.made _ (sym c.in_ok-first.ensures.ok_part ∙ c.digit_at.ensures) (omega arith) (omega arith)
+    rw c.number.ensures
+    (number_zero c.args.inputs c.args.text.now.now c.args.at c.args.made _ (sym c.in_ok-first.ensures.ok_part ∙ c.digit_at.ensures) (omega arith) (omega arith))
 
 pub returns-in_default : goal.returns-in_default
 returns-in_default c =
-    number_alone c.args.inputs c.args.text.now.now c.args.at c.args.made _ (sym c.in_ok-first.ensures.ok_part ∙ c.digit_at.ensures) (omega arith)
-    (sym c.in_default.is ∙ c.digit_at-2.ensures)
+    rw c.number.ensures
+    (number_alone c.args.inputs c.args.text.now.now c.args.at c.args.made _ (sym c.in_ok-first.ensures.ok_part ∙ c.digit_at.ensures) (omega arith)
+    (sym c.in_default.is ∙ c.digit_at-2.ensures))
 
 pub overflow_mul-j : goal.overflow_mul-j
 overflow_mul-j c =
@@ -43,5 +45,6 @@ returns-then-inputs-j c =
 
 pub returns : goal.returns
 returns c =
-    number_two c.args.inputs c.args.text.now.now c.args.at c.args.made _ (sym c.in_ok-first.ensures.ok_part ∙ c.digit_at.ensures) (omega arith)
-    (omega arith) _ _ (sym c.in-Some.is ∙ c.digit_at-2.ensures) refl (omega arith)
+    rw c.number.ensures
+    (number_two c.args.inputs c.args.text.now.now c.args.at c.args.made _ (sym c.in_ok-first.ensures.ok_part ∙ c.digit_at.ensures) (omega arith)
+    (omega arith) _ _ (sym c.in-Some.is ∙ c.digit_at-2.ensures) refl (omega arith))

@@ -12,9 +12,10 @@ returns-in-Some-eq120 c = let b = byte_some c.args.text.now.now c.args.at c.byte
 pub returns-after-b-eq48 : goal.returns-after-b-eq48
 returns-after-b-eq48 c =
     let b = byte_some c.args.text.now.now c.args.at c.byte_at.ensures c.in-Some-48-to-49.is in
+    let number = c.number-in-Some-48-to-49.ensures in
     elim c.if-b-eq48.branch [
-      | then-b-eq48 w ↦ rw w.result-is (leaf_zero c.args.inputs c.args.text.now.now c.args.at c.args.made (omega arith))
-      | else-b-eq48 w ↦ rw w.result-is (leaf_one c.args.inputs c.args.text.now.now c.args.at c.args.made (omega arith))
+      | then-b-eq48 w ↦ rw (number, w.kind-is) (leaf_zero c.args.inputs c.args.text.now.now c.args.at c.args.made (omega arith))
+      | else-b-eq48 w ↦ rw (number, w.kind-is) (leaf_one c.args.inputs c.args.text.now.now c.args.at c.args.made (omega arith))
     ]
 
 pub returns-in_default : goal.returns-in_default
