@@ -16,7 +16,7 @@ use Rattle.wire.proofs.ListLaws.{sets_before, sets_in}
 use Rattle.refusal.proofs.CheckLaws.{both_first}
 use Rattle.gate.specs.declared.gates.Gate.{Gate}
 use Rattle.gate.specs.Gates.{well_formed, WellFormed, All}
-use Rattle.gate_bytes.specs.GateBytes.{gate_bytes, gates_bytes, gate_of, fields_fit, gate_at, gate_fits}
+use Rattle.gate_bytes.specs.GateBytes.{gate_bytes, field_bytes, gates_bytes, gate_of, fields_fit, gate_at, gate_fits}
 use Rattle.gate_bytes.proofs.ByteLaws.{gates_length}
 use Rattle.gate_bytes.proofs.ReadBackLaws.{gates_fit, only_fields}
 use Rattle.circuit.specs.Format.{first_gate, file_length}
@@ -77,6 +77,18 @@ module _ (area : List ℕ) (i : ℕ) where
         drop_fields eight bytes 0 (omega (arith, eight_long))
         ∙ rw (blank, drop16 eight bytes 6 (omega (arith, eight_long)), none) (only_fields (get_or eight 0 0) (get_or eight 1 0) (at16 eight 2) (at16 eight 4) fit (at16 eight 6))
         ∙ ap gate_bytes (same_gate eight area 0 (file_length i) eight_at ∙ sym fields_in)
+
+  -- its fields, stored once more with a zero byte, are its writing too
+  pub fields_copied : (k : ℕ) {kind a b t from to : ℕ} {after : List ℕ} → InOrder area i → from ≡ file_length i → to ≡ file_length k
+      → kind ≡ get_or area from 0 → a ≡ at16 area (from + 2) → b ≡ at16 area (from + 4) → t ≡ at16 area (from + 6)
+      → after ≡ sets area to (field_bytes kind a b t) → after ≡ put_gates area k (gate_in area i ∷ [])
+  unfolding InOrder
+  fields_copied k o ef et ek ea eb ec e =
+      let at : ℕ = file_length i in
+      e
+      ∙ rw (et, ek, ea, eb, ec, ef) (ap (sets area (file_length k)) (only_fields (get_or area at 0) (get_or area (at + 1) 0) (at16 area (at + 2)) (at16 area (at + 4)) o (at16 area (at + 6))))
+      ∙ put_one area k _
+      ∙ ap (λ (g : Gate). put_gates area k (g ∷ [])) (sym fields_in)
 
   -- they are copied
   pub copied : (k : ℕ) {from to n : ℕ} {after : List ℕ} → InOrder area i → i < k → file_length (k + 1) ≤ length area

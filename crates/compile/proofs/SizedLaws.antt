@@ -7,12 +7,12 @@ use mathlib.Core.List.{List, ◌++◌}
 use lib.ListN.{length, get_or, replicate, length-append}
 use lib.Dec.{leb, eqb}
 use lib.Seq.{sets}
-use borrow.Author.Tests.{leb-true, leb-false}
+use borrow.Author.Tests.{eqb-false, leb-true, leb-false}
 use Rattle.wire.specs.Limits.{most_gates, most_size, most_work}
 use Rattle.std.specs.Prelude.{Result, Ok, Err}
-use Rattle.refusal.specs.Answers.{Answer, result, refuse, check, checked_each, answer_of, number_of, place_of}
+use Rattle.refusal.specs.Answers.{Answer, result, refuse, check, checked_each, answer_of}
 use Rattle.refusal.specs.declared.causes.Refusal.{Refusal}
-use Rattle.refusal.proofs.AnswerLaws.{each_test, each_refused, Never, never_result, never_check}
+use Rattle.refusal.proofs.AnswerLaws.{each_test, failed, same_refusal}
 use Rattle.refusal.specs.Checks.{lowest}
 use Rattle.contents.specs.Contents.{body_of}
 use Rattle.contents.specs.Arity.{inputs_of}
@@ -46,7 +46,7 @@ use Rattle.sizing.specs.Sizing.{node_sizes}
 use Rattle.sizing.specs.Steps.{entry_fits}
 use Rattle.program.proofs.BodyLaws.{body_outputs, names_node, named_tree}
 use Rattle.compile.proofs.BodyLaws.{trees_same, countable, lines_counted, gates_counted, fitting}
-use Rattle.compilation.proofs.ProgramLaws.{size_fits, AllSmall, grant_large, lines_short, gates_many, area_short, fits}
+use Rattle.compilation.proofs.ProgramLaws.{size_fits, AllSmall, too_large, grant_large, lines_short, gates_many, area_short, fits}
 use Rattle.sizing.proofs.SizeLaws.{sizes_length, sizes_lowest}
 
 -- the answer a and the area at exit are those of compiling the program
@@ -95,10 +95,10 @@ module _ {f : List ℕ} {h : Head} {sizes : List ℕ} (l : Listed f h sizes) whe
         ∙ ap₂ (λ (l m : ℕ). check (eqb l m) (cause.Size l) (result tt)) lowest_is (body_outputs f accepts)
 
     pub size_refused : {why : Refusal} → r ≡ Err why → Compiles (program_of f) grant area (refuse why) area
-    unfolding compile_program
     size_refused {why} g =
-        let never : Never 11 (checked_each (size_fits (program_of f)) (length (program_of f).outputs) cause.Size) = never_check 11 _ (cause.Size _) (result tt) (omega arith) (never_result 11 tt) in
-        outcome_refused area (number_of why) (place_of why) (never _ _ (sym (sym (ap answer_of g) ∙ check_is))) (each_refused (size_fits (program_of f)) _ cause.Size check_is _ g)
+        let said : refuse why ≡ checked_each (size_fits (program_of f)) (length (program_of f).outputs) cause.Size = sym (ap answer_of g) ∙ check_is in
+        let large = failed tt _ (cause.Size _) _ _ (sym said) in
+        rw (← same_refusal {A = CircuitHead} (cause.Size _) why (simp large at said)) (outcome_refused area 8 _ (omega arith) (too_large (program_of f) grant (length area) (eqb-false _ _ large)))
 
     module _ (passed : r ≡ Ok tt) where
       small : AllSmall (program_of f)

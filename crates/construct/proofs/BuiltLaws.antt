@@ -201,14 +201,21 @@ module _ {nodes : List ℕ} {i t f : ℕ} {w : GateWriter} (m : Room nodes i t f
         (omega (arith, ap (built_count 1) u.is))
         (omega (arith, ap most u.is, most_xor_first (tree_in nodes a) (tree_in nodes b)))
 
-    -- there is room for the second where the first ended
-    pub room_xor_second : {g : ℕ} {v : GateWriter} → Wrote (tree_in nodes a) t f g w v → Room nodes b t g (built_count 1 (tree_in nodes b)) v
+    -- there is room for the second wherever it starts, up to where the first ended
+    pub room_xor_from : {p g : ℕ} {v from : GateWriter} → Wrote (tree_in nodes a) t f p w v → length from.area.now ≡ length w.area.now
+        → t < g → from.count ≤ v.count → g ≤ p → Room nodes b t g (built_count 1 (tree_in nodes b)) from
     unfolding built_count
+    room_xor_from {p} {g} {v} {from} s same h few low =
+        let x = by_numbers s in
+        room_part b t g from m u.second (omega arith) h same
+        (omega (arith, ap (built_count 1) u.is, x.appended.stored.count_to, build_length (tree_in nodes a) t f, few))
+        (omega (arith, ap most u.is, most_xor_second (tree_in nodes a) (tree_in nodes b), x.free_to, low))
+
+    -- and so where it ended
+    pub room_xor_second : {g : ℕ} {v : GateWriter} → Wrote (tree_in nodes a) t f g w v → Room nodes b t g (built_count 1 (tree_in nodes b)) v
     room_xor_second {g} {v} s =
         let x = by_numbers s in
-        room_part b t g v m u.second (omega arith) (omega (arith, m.taken, x.free_to)) (appended_length x.appended)
-        (omega (arith, ap (built_count 1) u.is, x.appended.stored.count_to, build_length (tree_in nodes a) t f))
-        (omega (arith, ap most u.is, most_xor_second (tree_in nodes a) (tree_in nodes b), x.free_to))
+        room_xor_from s (appended_length x.appended) (omega (arith, m.taken, x.free_to)) (omega arith) (omega arith)
 
   module _ {mark : Bool} {a b : ℕ} (u : Binary (AND mark) nodes i a b) where
     -- the inputs of every node are below their number

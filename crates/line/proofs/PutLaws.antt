@@ -23,12 +23,16 @@ put_then {s} {t} {u} {v} {w} p q =
       stored = q.stored ∙ ap (λ (x : List ℕ). sets x v.end t) p.stored ∙ sets_then u.out.now u.end v.end s t p.ends;
     }
 
+-- the buffer keeps its length
+pub put_length : {s : List ℕ} {v w : LineWriter} → Put s v w → length w.out.now ≡ length v.out.now
+put_length {s} {v} p = ap length p.stored ∙ length-sets v.out.now v.end s
+
 -- where two texts fit, the first does, and behind it the second
 pub fits_first : {s : List ℕ} (t : List ℕ) {w : LineWriter} → TextFits (s ++ t) w → TextFits s w
 fits_first {s} t h = record { fits = omega (arith, h.fits, length-append s t) }
 
 pub fits_second : {s t : List ℕ} {v w : LineWriter} → TextFits (s ++ t) v → Put s v w → TextFits t w
-fits_second {s} {t} {v} h p = record { fits = omega (arith, h.fits, length-append s t, p.ends, ap length p.stored, length-sets v.out.now v.end s) }
+fits_second {s} {t} h p = record { fits = omega (arith, h.fits, length-append s t, p.ends, put_length p) }
 
 -- a loop has put the texts of the first i elements
 pub record EachPut {A : Type 0} (text : A → List ℕ) (all : List A) (old new : LineWriter) (i : ℕ) : Type 0 where

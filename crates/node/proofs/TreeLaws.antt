@@ -114,7 +114,7 @@ module _ (body : List ℕ) (i : ℕ) (h : i < length body / 6) where
   node_inside = omega (arith, nodes_count body)
 
   -- it is in order behind a list with an entry for each node before it
-  pub next_ok : {n entries : ℕ} (list : List ℕ) → Fillable n body entries → length list ≡ entries → NodeOk n (length (take i list)) (node_at body i)
+  pub next_ok : {A : Type 0} {n entries : ℕ} (list : List A) → Fillable n body entries → length list ≡ entries → NodeOk n (length (take i list)) (node_at body i)
   next_ok list f e =
       let l : length (take i list) ≡ i = length-take-le i list (omega (arith, f.fits)) in
       rw (l, ← node_in) (f.ordered i node_inside)

@@ -45,12 +45,15 @@ module _ (outputs counts : List ℕ) where
   all = flat_map entry_quote (named_entries outputs counts)
 
   module _ (k : ℕ) {answers₀ answers : List ℕ} (p : Filled all answers₀ answers (3 * k)) (q : Quotable outputs counts (length answers₀)) where
+    pub answer_fits : k < length outputs / 2 → 3 * k + 3 ≤ length answers
+    answer_fits h = omega (arith, p.same, q.fits)
+
     -- the next one is stored, copied over a part of the list
     pub answer_stored : {e : Entry} {copied : List ℕ} → k < length outputs / 2 → e ≡ named_entry outputs counts k → copied ≡ entry_quote e
         → Filled all answers₀ (put_mid (3 * k) (3 * k + 3 - 3 * k) answers copied) (3 * (k + 1))
     unfolding entry_quote
     answer_stored {e} h is at =
-        rw (part_stored (entry_quote e) answers (3 * k) (3 * k + 3 - 3 * k) at (omega arith) (omega (arith, p.same, q.fits)))
+        rw (part_stored (entry_quote e) answers (3 * k) (3 * k + 3 - 3 * k) at (omega arith) (answer_fits h))
         (filled_entry 3 entry_quote answer_wide (named_entries outputs counts) e k (entry_quote e) p (omega (arith, many)) (omega (arith, many, q.fits))
         (ap entry_quote (is ∙ sym (tabulate_at (named_entry outputs counts) (length outputs / 2) k e h))))
 

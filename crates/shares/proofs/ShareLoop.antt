@@ -112,7 +112,10 @@ module _ (nodes outputs : List ℕ) (n : ℕ) where
                 (put_append w.area.now w.count (next k) (left (k + 1)) ∙ ap (put_gates w.area.now w.count) (sym (left_next k h)) ∙ p.rest);
           }
 
-      -- until none is
+      -- until none is, and so many gates are written
+      pub writing_count : m ≤ k → w.count ≡ length (circuit_gates n es)
+      writing_count h = omega (arith, p.count, ap (λ (gs : List Gate). length gs) (left_none k h))
+
       pub writing_all : m ≤ k → w.area.now ≡ put_gates area₀ 0 (circuit_gates n es)
       writing_all h = sym (put_none w.area.now w.count) ∙ ap (put_gates w.area.now w.count) (sym (left_none k h)) ∙ p.rest
 

@@ -94,15 +94,19 @@ module _ {nodes : List ℕ} {i t f : ℕ} {u : GateWriter} (r : Room nodes i t f
     built_order : (j : ℕ) → j < v.count → u.count ≤ j → InOrder v.area.now j
     built_order j h q = rw area_is (stored_order line_numbers (omega arith) u.area.now u.count built [] built_formed built_room j (omega (arith, built_to)) q)
 
-    -- there is room to write them again without those on the target
-    pub reverse_room : Reversible v.area.now u.count v.count v.count t
-    reverse_room =
+    -- there is room to write them again, if no more are written than where the target is left out
+    pub reverse_room_without : {out : ℕ} → length (uncompute (eqb out) built) ≤ length (uncompute (eqb t) built) → Reversible v.area.now u.count v.count v.count out
+    reverse_room_without few =
         record {
           ordered = omega (arith, built_to);
           each = built_order;
           before = omega arith;
-          room = rw built_back (omega (arith, r.room, share_parts, appended_length (by_numbers b).appended, built_to));
+          room = rw built_back (omega (arith, r.room, share_parts, appended_length (by_numbers b).appended, built_to, few));
         }
+
+    -- and so without those on the target
+    pub reverse_room : Reversible v.area.now u.count v.count v.count t
+    reverse_room = reverse_room_without (omega arith)
 
     -- building and undoing write the share
     pub share_written : {w : GateWriter} → Appended (uncompute (eqb t) (gates_from v.area.now u.count (v.count - u.count))) v w

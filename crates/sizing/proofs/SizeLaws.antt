@@ -4,7 +4,7 @@ use native.Mathlib.Omega.{arith}
 use native.Mathlib.Nat.{add-zero}
 use mathlib.Core.Path.{◌≡◌, refl, sym, ap, ◌∙◌}
 use mathlib.Core.Bool.{Bool}
-use mathlib.Core.List.{List, [], ◌∷◌, ◌++◌, map, flat_map}
+use mathlib.Core.List.{List, [], ◌∷◌, ◌++◌, map}
 use lib.ListN.{length, get_or, take, get_or-append}
 use lib.Seq.{get_or-take, length-take-le}
 use lib.Dec.{leb}
@@ -14,6 +14,7 @@ use Rattle.wire.specs.Shown.{shown}
 use Rattle.refusal.specs.Checks.{lowest}
 use Rattle.refusal.proofs.CheckLaws.{by_test, lowest_same}
 use Rattle.wire.proofs.FillLaws.{Filled, filled_front}
+use Rattle.wire.proofs.ListLaws.{flat_single}
 use Rattle.wire.proofs.ShownLaws.{shown_few, shown_more, shown_sum}
 use Rattle.node.specs.declared.nodes.Node.{Node}
 use Rattle.node.specs.declared.nodes.Node.TheVariants.{Zero, One, Input, Not, Xor, And}
@@ -24,7 +25,7 @@ use Rattle.node.specs.Steps.{NextOf}
 use Rattle.node.specs.Trees.{tree_of, trees}
 use Rattle.filling.proofs.FillLaws.{item_is}
 use Rattle.node.proofs.TreeLaws.{nodes_count}
-use Rattle.node.proofs.FilledLaws.{entries_length, entry_at, entry_is}
+use Rattle.node.proofs.FilledLaws.{entries_length, entry_at}
 use Rattle.sizing.specs.Sizing.{shown_size, node_sizes}
 use Rattle.sizing.specs.Steps.{entry_fits}
 
@@ -93,16 +94,13 @@ next_input ss j ts e = refl
 
 pub next_not : {ss : List ℕ} (a : ℕ) {r : ℕ} → a < length ss → r ≡ shown most_size (1 + get_or ss a 0 + 0) → NextSize (Not a) ss r
 unfolding tree_of size
-next_not a h p ts e = ap (λ (s : ℕ). s ∷ []) (p ∙ rw (add-zero, entry_is shown_size ts e a h) (shown_more most_size 1 (size (get_or ts a ZERO))))
+next_not a h p ts e = ap (λ (s : ℕ). s ∷ []) (p ∙ more_is ts (e ∙ flat_single shown_size ts) a h)
 
 module _ {ss : List ℕ} (a b : ℕ) {r : ℕ} (h : (a < length ss) × (b < length ss)) (p : r ≡ shown most_size (1 + get_or ss a 0 + get_or ss b 0)) where
-  sum : (ts : List Expr) → ss ≡ flat_map (λ e. shown_size e ∷ []) ts → r ≡ shown most_size (1 + size (get_or ts a ZERO) + size (get_or ts b ZERO))
-  sum ts e = p ∙ rw (entry_is shown_size ts e a h.0, entry_is shown_size ts e b h.1) (shown_sum most_size 1 (size (get_or ts a ZERO)) (size (get_or ts b ZERO)))
-
   pub next_xor : NextSize (Xor a b) ss r
   unfolding tree_of size
-  next_xor ts e = ap (λ (s : ℕ). s ∷ []) (sum ts e)
+  next_xor ts e = ap (λ (s : ℕ). s ∷ []) (p ∙ sum_is ts (e ∙ flat_single shown_size ts) a h.0 b h.1)
 
   pub next_and : (m : Bool) → NextSize (And m a b) ss r
   unfolding tree_of size
-  next_and m ts e = ap (λ (s : ℕ). s ∷ []) (sum ts e)
+  next_and m ts e = ap (λ (s : ℕ). s ∷ []) (p ∙ sum_is ts (e ∙ flat_single shown_size ts) a h.0 b h.1)

@@ -38,7 +38,7 @@ module _ (k : ℕ) {list₀ list : List ℕ} {i : ℕ} (p : Filled (replicate k 
   zeros_count = length-replicate {A = ℕ} k 0
 
   pub cleared_next : i < k → k ≤ length list₀ → Filled (replicate k 0) list₀ (set list i 0) (i + 1)
-  cleared_next h fits = filled_next p (sym (get_or-replicate k i 0 0 h)) (omega (arith, zeros_count)) (omega (arith, zeros_count))
+  cleared_next h fits = filled_next p 0 (sym (get_or-replicate k i 0 0 h)) (omega (arith, zeros_count)) (omega (arith, zeros_count))
 
   pub cleared_all : k ≤ i → list ≡ replicate k 0 ++ drop k list₀
   cleared_all h = filled_all p (omega (arith, zeros_count)) ∙ ap (λ (n : ℕ). replicate k 0 ++ drop n list₀) zeros_count

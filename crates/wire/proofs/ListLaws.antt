@@ -60,8 +60,8 @@ unfolding flat_map
 flat_append f [] ys = refl
 flat_append f (x ∷ xs) ys = ap (λ (l : List ℕ). f x ++ l) (flat_append f xs ys) ∙ sym (append_assoc (f x) (flat_map f xs) (flat_map f ys))
 
--- entries of w numbers each, one behind the other: how many numbers, the first entries, and one of them
-module _ {A : Type 0} (w : ℕ) (f : A → List ℕ) (wide : (a : A) → length (f a) ≡ w) where
+-- entries of w elements each, one behind the other: how many elements, the first entries, and one of them
+module _ {A B : Type 0} (w : ℕ) (f : A → List B) (wide : (a : A) → length (f a) ≡ w) where
   pub flat_length : (l : List A) → length (flat_map f l) ≡ w * length l
   unfolding flat_map
   flat_length [] = sym (mul-zero w)
@@ -74,7 +74,7 @@ module _ {A : Type 0} (w : ℕ) (f : A → List ℕ) (wide : (a : A) → length 
   flat_take (a ∷ l) (suc i) =
       ap (λ (n : ℕ). take n (f a ++ flat_map f l)) (mul_suc_front w i ∙ ap (λ (n : ℕ). n + w * i) (sym (wide a)))
       ∙ take-append-add (f a) (flat_map f l) (w * i)
-      ∙ ap (λ (m : List ℕ). f a ++ m) (flat_take l i)
+      ∙ ap (λ (m : List B). f a ++ m) (flat_take l i)
 
   pub flat_at : (l : List A) (i : ℕ) (d : A) → i < length l → take w (drop (w * i) (flat_map f l)) ≡ f (get_or l i d)
   unfolding flat_map
@@ -91,12 +91,13 @@ module _ {A : Type 0} (w : ℕ) (f : A → List ℕ) (wide : (a : A) → length 
       sym (take-append-drop w (drop (w * i) (flat_map f l)))
       ∙ ap₂ ◌++◌ (flat_at l i d h) (drop-drop w (w * i) (flat_map f l))
 
-  -- number j of entry i, in a list that starts with the entries
+-- the same of numbers: number j of entry i, in a list that starts with the entries
+module _ {A : Type 0} (w : ℕ) (f : A → List ℕ) (wide : (a : A) → length (f a) ≡ w) where
   module _ (l : List A) (rest : List ℕ) (i : ℕ) (h : i < length l) where
     within : w * i + w ≤ length (flat_map f l)
     within =
         let inside : w * (i + 1) ≤ w * length l = mul-le-mul_left w (omega arith) in
-        omega (arith, flat_length l, mul-add w i 1, mul-one w)
+        omega (arith, flat_length w f wide l, mul-add w i 1, mul-one w)
 
     pub flat_fits : w * i + w ≤ length (flat_map f l ++ rest)
     flat_fits = omega (arith, within, length-append (flat_map f l) rest)
@@ -105,7 +106,7 @@ module _ {A : Type 0} (w : ℕ) (f : A → List ℕ) (wide : (a : A) → length 
     flat_number d j k =
         get_or-append (flat_map f l) rest 0 (w * i + j) (omega (arith, within))
         ∙ sym (get_or-drop (w * i) (flat_map f l) j 0)
-        ∙ ap (λ (m : List ℕ). get_or m j 0) (flat_drop l i d h)
+        ∙ ap (λ (m : List ℕ). get_or m j 0) (flat_drop w f wide l i d h)
         ∙ get_or-append (f (get_or l i d)) (drop (w * i + w) (flat_map f l)) 0 j (omega (arith, wide (get_or l i d)))
 
   -- numbers that are, entry by entry, those of at 0, at 1, .., are the entries
@@ -124,11 +125,11 @@ module _ {A : Type 0} (w : ℕ) (f : A → List ℕ) (wide : (a : A) → length 
     pub flat_only : body ≡ flat_map f (tabulate at k)
     flat_only = ap (λ (n : ℕ). drop n body) (sym (mul-zero w)) ∙ only_from 0 k (omega arith)
 
--- entries of one number each
-pub flat_single : {A : Type 0} (f : A → ℕ) (l : List A) → flat_map (λ (a : A). f a ∷ []) l ≡ map f l
+-- entries of one element each
+pub flat_single : {A B : Type 0} (f : A → B) (l : List A) → flat_map (λ (a : A). f a ∷ []) l ≡ map f l
 unfolding flat_map
 flat_single f [] = refl
-flat_single f (a ∷ l) = ap (λ (m : List ℕ). f a ∷ m) (flat_single f l)
+flat_single f (a ∷ l) = ap (λ (m : List _). f a ∷ m) (flat_single f l)
 
 -- a list made by index has as many elements as were asked for, each where its index says
 tabulate_from-length : {A : Type 0} (make : ℕ → A) (i k : ℕ) → length (tabulate_from make i k) ≡ k

@@ -86,53 +86,32 @@ module _ (x : List ℕ) where
   abbrev pub NextWord : Node → List ℕ → ℕ → Type 0
   NextWord node list r = NextOf (λ e. value_word e x ∷ []) node list (r ∷ [])
 
-  -- a word with the bits of the node's tree is its word
-  next_is : (e : Expr) (w : ℕ) → w < 2 ^ question_count → ((k : ℕ) → k < question_count → word_bit w k ≡ value e (question x k)) → w ∷ [] ≡ value_word e x ∷ []
-  next_is e w l h = ap (λ (v : ℕ). v ∷ []) (value_word_is x e w l h)
-
   pub next_zero : (ws : List ℕ) {r : ℕ} → r ≡ 0 → NextWord Zero ws r
-  unfolding tree_of value
-  next_zero ws is ts e = rw is (next_is ZERO 0 (omega arith) (λ k h. zero_bit k))
+  unfolding tree_of
+  next_zero ws is ts e = ap (λ (w : ℕ). w ∷ []) (is ∙ zero_is x)
 
   pub next_one : (ws : List ℕ) {r : ℕ} → r ≡ 2 ^ question_count - 1 → NextWord One ws r
-  unfolding tree_of value
-  next_one ws is ts e = rw is (next_is ONE (2 ^ question_count - 1) (ones_lt question_count) (λ k h. ones_bit question_count k h))
+  unfolding tree_of
+  next_one ws is ts e = ap (λ (w : ℕ). w ∷ []) (is ∙ one_is x)
 
   pub next_input : (ws : List ℕ) (j : ℕ) → get_or x j 0 < 2 ^ question_count → NextWord (Input j) ws (get_or x j 0)
-  unfolding tree_of value
-  next_input ws j l ts e = next_is (INPUT j) (get_or x j 0) l (λ k p. sym (bits_at_lem k x j))
+  unfolding tree_of
+  next_input ws j l ts e = ap (λ (w : ℕ). w ∷ []) (input_is x j l)
 
-  module _ {ws : List ℕ} (ts : List Expr) (e : ws ≡ flat_map (λ e. value_word e x ∷ []) ts) (a : ℕ) (h : a < length ws) where
-    entry_below : get_or ws a 0 < 2 ^ question_count
-    entry_below = rw (entry_is (λ e. value_word e x) ts e a h) (value_word_below x (get_or ts a ZERO))
-
-    entry_bit : (k : ℕ) → k < question_count → word_bit (get_or ws a 0) k ≡ value (get_or ts a ZERO) (question x k)
-    entry_bit k l = ap (λ (w : ℕ). word_bit w k) (entry_is (λ e. value_word e x) ts e a h) ∙ value_word_bit x (get_or ts a ZERO) k l
+  module _ {ws : List ℕ} (ts : List Expr) (e : ws ≡ flat_map (λ e. value_word e x ∷ []) ts) where
+    entry : (a : ℕ) → a < length ws → get_or ws a 0 ≡ value_word (get_or ts a ZERO) x
+    entry a h = entry_is (λ e. value_word e x) ts e a h
 
   -- NOT is 1 XOR its operand (001), on every question
   pub next_not : (ws : List ℕ) (a : ℕ) → a < length ws → {r : ℕ} → r ≡ bit_xor (2 ^ question_count - 1) (get_or ws a 0) → NextWord (Not a) ws r
-  unfolding tree_of value
-  next_not ws a h is ts e =
-      let v : ℕ = get_or ws a 0 in
-      rw is
-      (next_is (NOT (get_or ts a ZERO)) (bit_xor (2 ^ question_count - 1) v) (xor_lt question_count (2 ^ question_count - 1) v (ones_lt question_count) (entry_below ts e a h))
-      (λ k p. not_word v question_count k p ∙ ap (xor_bit 1) (entry_bit ts e a h k p)))
+  unfolding tree_of
+  next_not ws a h is ts e = ap (λ (w : ℕ). w ∷ []) (is ∙ ap (bit_xor (2 ^ question_count - 1)) (entry ts e a h) ∙ not_is x (get_or ts a ZERO))
 
   module _ (ws : List ℕ) (a b : ℕ) (h : a < length ws) (g : b < length ws) {r : ℕ} where
     pub next_xor : r ≡ bit_xor (get_or ws a 0) (get_or ws b 0) → NextWord (Xor a b) ws r
-    unfolding tree_of value
-    next_xor is ts e =
-        let v : ℕ = get_or ws a 0 in
-        let w : ℕ = get_or ws b 0 in
-        rw is
-        (next_is (XOR (get_or ts a ZERO) (get_or ts b ZERO)) (bit_xor v w) (xor_lt question_count v w (entry_below ts e a h) (entry_below ts e b g))
-        (λ k p. xor_word v w k ∙ ap₂ xor_bit (entry_bit ts e a h k p) (entry_bit ts e b g k p)))
+    unfolding tree_of
+    next_xor is ts e = ap (λ (w : ℕ). w ∷ []) (is ∙ ap₂ bit_xor (entry ts e a h) (entry ts e b g) ∙ xor_is x (get_or ts a ZERO) (get_or ts b ZERO))
 
     pub next_and : (m : Bool) → r ≡ bit_and (get_or ws a 0) (get_or ws b 0) → NextWord (And m a b) ws r
-    unfolding tree_of value
-    next_and m is ts e =
-        let v : ℕ = get_or ws a 0 in
-        let w : ℕ = get_or ws b 0 in
-        rw is
-        (next_is (AND m (get_or ts a ZERO) (get_or ts b ZERO)) (bit_and v w) (and_lt question_count v w (entry_below ts e a h) (entry_below ts e b g))
-        (λ k p. and_word v w k ∙ ap₂ (λ (c d : ℕ). c * d) (entry_bit ts e a h k p) (entry_bit ts e b g k p)))
+    unfolding tree_of
+    next_and m is ts e = ap (λ (w : ℕ). w ∷ []) (is ∙ ap₂ bit_and (entry ts e a h) (entry ts e b g) ∙ and_is x (get_or ts a ZERO) (get_or ts b ZERO) m)

@@ -1,5 +1,9 @@
+use Rattle.wire.proofs.FillLaws.{filled_start}
 use Rattle.filling.proofs.FillLaws.{next_listed, filled_next, filled_all}
 use Rattle.filling.proofs.fill.Goals as goal
+
+pub loop-i-init : goal.loop-i-init
+loop-i-init g c = filled_start
 
 pub item-requires : goal.item-requires
 item-requires g c =

@@ -1,10 +1,7 @@
-use mathlib.Core.Path.{refl, ◌∙◌}
 use native.Mathlib.Omega.{arith}
-use Rattle.wire.specs.Shown.{shown}
-use Rattle.node.specs.Exprs.{size}
-use Rattle.node.specs.Trees.{tree_of}
 use Rattle.node.proofs.NodeLaws.{not_operand, xor_operands, and_operands}
-use Rattle.sizing.proofs.SizeLaws.{entry_few, more_is, sum_is}
+use Rattle.filling.proofs.FillLaws.{item_of_next}
+use Rattle.sizing.proofs.SizeLaws.{entry_few, next_zero, next_one, next_input, next_not, next_xor, next_and}
 use Rattle.sizing.proofs.SizesFold.item.Goals as goal
 
 pub joined-requires : goal.joined-requires
@@ -30,30 +27,22 @@ joined-requires-in-And c =
     (omega (arith, first, second), omega (arith, first, second))
 
 pub returns-in-Zero : goal.returns-in-Zero
-unfolding tree_of size shown
-returns-in-Zero c ts e = rw c.in-Zero.is refl
+returns-in-Zero c = rw c.in-Zero.is (item_of_next _ _ (next_zero _))
 
 pub returns-in-One : goal.returns-in-One
-unfolding tree_of size shown
-returns-in-One c ts e = rw c.in-One.is refl
+returns-in-One c = rw c.in-One.is (item_of_next _ _ (next_one _))
 
 pub returns-in-Input : goal.returns-in-Input
-unfolding tree_of size shown
-returns-in-Input c ts e = rw c.in-Input.is refl
+returns-in-Input c = rw c.in-Input.is (item_of_next _ _ (next_input _ _))
 
 pub returns-in-Not : goal.returns-in-Not
-unfolding tree_of size
-returns-in-Not c ts e =
-    rw c.in-Not.is (c.joined.ensures ∙ more_is ts e _ (not_operand _ _ c.requires.2.ordered c.in-Not.is))
+returns-in-Not c =
+    rw c.in-Not.is (item_of_next _ _ (next_not c.in-Not.a (not_operand _ _ c.requires.2.ordered c.in-Not.is) c.joined.ensures))
 
 pub returns-in-Xor : goal.returns-in-Xor
-unfolding tree_of size
-returns-in-Xor c ts e =
-    let o = xor_operands _ _ c.requires.2.ordered c.in-Xor.is in
-    rw c.in-Xor.is (c.joined-in-Xor.ensures ∙ sum_is ts e _ o.0 _ o.1)
+returns-in-Xor c =
+    rw c.in-Xor.is (item_of_next _ _ (next_xor {ss = c.args.sizes.now} c.in-Xor.a c.in-Xor.b (xor_operands _ _ c.requires.2.ordered c.in-Xor.is) c.joined-in-Xor.ensures))
 
 pub returns-in-And : goal.returns-in-And
-unfolding tree_of size
-returns-in-And c ts e =
-    let o = and_operands _ _ c.requires.2.ordered c.in-And.is in
-    rw c.in-And.is (c.joined-in-And.ensures ∙ sum_is ts e _ o.0 _ o.1)
+returns-in-And c =
+    rw c.in-And.is (item_of_next _ _ (next_and {ss = c.args.sizes.now} c.in-And.a c.in-And.b (and_operands _ _ c.requires.2.ordered c.in-And.is) c.joined-in-And.ensures c.in-And.field-0))

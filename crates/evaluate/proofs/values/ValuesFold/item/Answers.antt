@@ -1,9 +1,7 @@
-use mathlib.Core.Path.{refl}
 use native.Mathlib.Omega.{arith}
-use Rattle.node.specs.Exprs.{Expr, value}
-use Rattle.node.specs.Trees.{tree_of}
 use Rattle.node.proofs.NodeLaws.{not_operand, xor_operands, and_operands}
-use Rattle.filling.proofs.FillLaws.{item_is}
+use Rattle.node.proofs.ValueLaws.{next_zero, next_one, next_input, next_not, next_xor, next_and}
+use Rattle.filling.proofs.FillLaws.{item_of_next}
 use Rattle.evaluate.proofs.FillLaws.{item_bit}
 use Rattle.evaluate.proofs.values.ValuesFold.item.Goals as goal
 
@@ -32,33 +30,19 @@ and_bits-requires c =
     (omega (arith, first, second), omega (arith, first, second))
 
 pub returns-in-Zero : goal.returns-in-Zero
-unfolding tree_of value
-returns-in-Zero c ts e = rw c.in-Zero.is refl
+returns-in-Zero c = rw c.in-Zero.is (item_of_next _ _ (next_zero c.args.self.now.inputs.now _))
 
 pub returns-in-One : goal.returns-in-One
-unfolding tree_of value
-returns-in-One c ts e = rw c.in-One.is refl
+returns-in-One c = rw c.in-One.is (item_of_next _ _ (next_one c.args.self.now.inputs.now _))
 
 pub returns-in-Input : goal.returns-in-Input
-unfolding tree_of value
-returns-in-Input c ts e = rw c.in-Input.is refl
+returns-in-Input c = rw c.in-Input.is (item_of_next _ _ (next_input c.args.self.now.inputs.now _ c.in-Input.j))
 
 pub returns-in-Not : goal.returns-in-Not
-unfolding tree_of value
-returns-in-Not c ts e =
-    let f = λ (t : Expr). value t c.args.self.now.inputs.now in
-    rw (c.in-Not.is, ← item_is f ts e _ 0 (not_operand _ _ c.requires.2.ordered c.in-Not.is)) c.xor_bits.ensures
+returns-in-Not c = rw c.in-Not.is (item_of_next _ _ (next_not c.args.self.now.inputs.now c.in-Not.a c.xor_bits.ensures))
 
 pub returns-in-Xor : goal.returns-in-Xor
-unfolding tree_of value
-returns-in-Xor c ts e =
-    let f = λ (t : Expr). value t c.args.self.now.inputs.now in
-    let o = xor_operands _ _ c.requires.2.ordered c.in-Xor.is in
-    rw (c.in-Xor.is, ← item_is f ts e _ 0 o.0, ← item_is f ts e _ 0 o.1) c.xor_bits-in-Xor.ensures
+returns-in-Xor c = rw c.in-Xor.is (item_of_next _ _ (next_xor c.args.self.now.inputs.now {vs = c.args.values.now} c.in-Xor.a c.in-Xor.b c.xor_bits-in-Xor.ensures))
 
 pub returns-in-And : goal.returns-in-And
-unfolding tree_of value
-returns-in-And c ts e =
-    let f = λ (t : Expr). value t c.args.self.now.inputs.now in
-    let o = and_operands _ _ c.requires.2.ordered c.in-And.is in
-    rw (c.in-And.is, ← item_is f ts e _ 0 o.0, ← item_is f ts e _ 0 o.1) c.and_bits.ensures
+returns-in-And c = rw c.in-And.is (item_of_next _ _ (next_and c.args.self.now.inputs.now {vs = c.args.values.now} c.in-And.field-0 c.in-And.a c.in-And.b c.and_bits.ensures))
