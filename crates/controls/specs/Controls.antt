@@ -1,4 +1,4 @@
--- What the code asks of an operand of AND: which input it is, and which line is its control.
+-- What the code asks of an operand of AND, which input it is, and what follows: which line is its control.
 use Rattle.std.specs.Prelude.{ℕ, ◌≡◌, Option, Some, None}
 use Rattle.std.proofs.Math.Option as math
 use Rattle.node.specs.Exprs.{Expr}
