@@ -1,3 +1,4 @@
 pub mod DigitLaws
+pub mod KindLaws
 pub mod LeafLaws
 pub mod PlaceLaws
