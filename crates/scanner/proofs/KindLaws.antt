@@ -12,7 +12,7 @@ use Rattle.grammar.specs.FormulaNodes.{factor_nodes}
 use Rattle.automaton.specs.States.{AroundFactor, State}
 use Rattle.scanner.specs.Scanning.{LeafEnd}
 
--- the kind stands first in a node's bytes, and those of a leaf are the bytes of one node
+-- a node's bytes begin with its kind
 kind_first : (x : Node) (rest : List ℕ) (a : ℕ) {k : ℕ} → node_bytes x ++ rest ≡ node_fields k 0 a 0 → (c : Kind) × (kind_number c ≡ k)
 unfolding node_bytes
 kind_first Zero rest a e = (kind.Zero, cc)
@@ -22,6 +22,7 @@ kind_first (Not i) rest a e = (kind.Not, cc)
 kind_first (Xor i j) rest a e = (kind.Xor, cc)
 kind_first (And m i j) rest a e = (kind.And, cc)
 
+-- so nodes whose bytes have the shape of one node's begin with a kind's number
 kind_in : (xs : List Node) (a : ℕ) {k : ℕ} → nodes_bytes xs ≡ node_fields k 0 a 0 → (c : Kind) × (kind_number c ≡ k)
 unfolding flat_map
 kind_in [] a e = absurd cc
